@@ -1,151 +1,140 @@
--- Drivers of kinds that hold some of their cells at times only: what is moved out and put back in two parts is moved out and put back
--- in one, and what their kind asks of such cells it asks of those that are there.
-use Rattle.std.proofs.{Common.{◌≡◌, ◌≢◌, ℕ, ◌<◌, Bool, List, [], ◌∷◌, ◌++◌, map, length, Option, Some, None, get_or, is_some, set, refl, sym, ap, ◌∙◌, subst, append_assoc}, lemmas.List.map-append}
+-- Cells that a step holds at times: a kind takes such a cell as an option beside its number, and it is one of the step's cells where it
+-- is there.
+use Rattle.std.proofs.{Common.{ℕ, ◌≡◌, ◌∙◌, Bool, true, false, List, [], ◌∷◌, ◌++◌, map, Option, Some, None, is_some, append_assoc, append-nil, refl, sym, ap, subst}, lemmas.List.{map-append}}
 use Rattle.std.specs.Prelude.{option_map}
+use Rattle.core_steps.specs.{Places.{Fill, held, swap_at, thing_at, things, two_at}, Steps.Went, Trees.{number_of, tree_kind, tree_places}, declared.step.Others.Others, declared.trees.TreeStep.TreeStep}
+use Rattle.core_steps.specs.declared.trees.TreeStep.TheVariants as tree
+use Rattle.core_tree.specs.Descent.{two_if}
 use Rattle.dim_hierarchy.specs.Dimension.{Dimension}
-use Rattle.list_words.proofs.Each.{each-append, each-left, each-right}
-use Rattle.list_words.specs.Counts.{Each}
-use Rattle.volap_cell.specs.{Cells.{CellValue, cell_of}, State.{AreDifferent, HasInv, MayHold, Stand, cell_if, given, number_if, still, taken}, Steps.IsHere, Values.{ActorValue, actor_of}, World.Change, declared.actor.Actor.Actor, declared.cell.Cell.Cell}
-use Rattle.volap_cell.proofs.Cells.Lifting.{if-within, stand-others}
-use Rattle.core_steps.proofs.Ready.{can-step, may-hold, numbers_in, step-here, values_in}
-use Rattle.core_steps.specs.{HeldIf.{first_if, number_of, rest_if}, Ready.MayStep, declared.held.HeldIf.HeldIf}
+use Rattle.volap_cell.specs.{Cells.{cell_of}, Setting.Setting, State.{changes_of, still}, Steps.{IsHere, Makes}, Values.ActorValue, World.{Change, World, change, change_if, held as held_still, held_if}, declared.cell.Cell.Cell}
+use Rattle.volap_cell.specs.declared.kind.Kind.TheVariants.{Down, EnterTree, FinishPart}
 
--- Two parts.
+-- a cell is held at a place that has a number
+pub held-there : (y : ℕ) (row : List (Option ℕ)) (o : Option Cell) (cells : List (Option Cell)) → Fill (Some y ∷ row) (o ∷ cells) → is_some o ≡ true
+held-there y row o cells fill = (let both : ◌≡◌ {A = List Bool} (is_some o ∷ map is_some cells) (true ∷ map is_some row) = fill in cc)
 
-pub joined : {A B : Type 0} (f : A → B) (xs ys : List A) (us vs : List B) → map f xs ≡ us → map f ys ≡ vs → map f (xs ++ ys) ≡ us ++ vs
-joined f xs ys us vs e e2 = map-append f xs ys ∙ (λ k. e k ++ e2 k)
+-- One such cell.
 
-taken-append : {A : Type 0} (ys zs : List ℕ) (xs : List (Option A)) → taken (ys ++ zs) xs ≡ taken zs (taken ys xs)
-taken-append [] zs xs = refl
-taken-append (y ∷ ys) zs xs = taken-append ys zs (set xs y None)
+still-at : (p : Option ℕ) (o : Option Cell) (x : ℕ) → x ≡ number_of p → is_some o ≡ is_some p → still (thing_at p o) ≡ held_if x (option_map cell_of o)
+still-at None None x is e = refl
+still-at None (Some c) x is e = absurd (cc)
+still-at (Some y) None x is e = refl
+still-at (Some y) (Some c) x is e = ap (λ (n : ℕ). change n (cell_of c) (cell_of c) ∷ []) (sym is)
 
-given-append : {A : Type 0} (ts us : List (ℕ × A)) (xs : List (Option A)) → given (ts ++ us) xs ≡ given ts (given us xs)
-given-append [] us xs = refl
-given-append {A} (t ∷ ts) us xs = ap (λ (vs : List (Option A)). set vs t.0 (Some t.1)) (given-append ts us xs)
+changes-at : (p : Option ℕ) (o now : Option Cell) (x : ℕ) → x ≡ number_of p → is_some o ≡ is_some p → changes_of (swap_at p o now) ≡ change_if x (option_map cell_of o) (option_map cell_of now)
+changes-at None None now x is e = refl
+changes-at None (Some c) now x is e = absurd (cc)
+changes-at (Some y) None now x is e = refl
+changes-at (Some y) (Some c) None x is e = refl
+changes-at (Some y) (Some c) (Some d) x is e = ap (λ (n : ℕ). change n (cell_of c) (cell_of d) ∷ []) (sym is)
 
--- moved out one after the other
-pub taken-both : {A : Type 0} (xs between out : List (Option A)) (ys zs : List ℕ) → between ≡ taken ys xs → out ≡ taken zs between → out ≡ taken (ys ++ zs) xs
-taken-both {A} xs between out ys zs e e2 = e2 ∙ ap (λ (vs : List (Option A)). taken zs vs) e ∙ sym (taken-append ys zs xs)
+-- Some of them, one after the other.
 
--- put back one after the other, the last part first
-pub given-both : {A : Type 0} (out between back : List (Option A)) (ts us : List (ℕ × A)) → between ≡ given us out → back ≡ given ts between → back ≡ given (ts ++ us) out
-given-both {A} out between back ts us e e2 = e2 ∙ ap (λ (vs : List (Option A)). given ts vs) e ∙ sym (given-append ts us out)
+both-of : {A B : Type 0} (f : A → B) (xs ys : List A) (us vs : List B) → map f xs ≡ us → map f ys ≡ vs → map f (xs ++ ys) ≡ us ++ vs
+both-of f xs ys us vs a b = map-append f xs ys ∙ (λ k. a k ++ b k)
 
-each-apart : (ys zs : List ℕ) → AreDifferent (ys ++ zs) → Each (λ z. Each (λ y. z ≢ y) ys) zs
-each-apart [] zs d = none zs
-  where
-    none : (zs : List ℕ) → Each (λ z. Each (λ y. z ≢ y) []) zs
-    none [] = tt
-    none (z ∷ zs) = (tt, none zs)
-each-apart (y ∷ ys) zs d = both zs (each-right (λ z. z ≢ y) ys zs d.0) (each-apart ys zs d.1)
-  where
-    both : (zs : List ℕ) → Each (λ z. z ≢ y) zs → Each (λ z. Each (λ y. z ≢ y) ys) zs → Each (λ z. Each (λ y. z ≢ y) (y ∷ ys)) zs
-    both [] p q = tt
-    both (z ∷ zs) p q = ((p.0, q.0), both zs p.1 q.1)
+last-of : {A B : Type 0} (f : A → B) (xs : List A) (us : List B) → map f xs ≡ us → map f (xs ++ []) ≡ us
+last-of f xs us a = ap (map f) (append-nil xs) ∙ a
 
-each-number : {A : Type 0} (P : ℕ → Type 0) (things : List (ℕ × A)) → Each P (map (λ (t : ℕ × A). t.0) things) → Each (λ (t : ℕ × A). P t.0) things
-each-number P [] e = tt
-each-number P (t ∷ things) e = (e.0, each-number P things e.1)
+three-of : {A B : Type 0} (f : A → B) (xs ys zs : List A) (us vs ws : List B) → map f xs ≡ us → map f ys ≡ vs → map f zs ≡ ws → map f (xs ++ (ys ++ (zs ++ []))) ≡ (us ++ vs) ++ ws
+three-of f xs ys zs us vs ws a b c =
+    both-of f xs (ys ++ (zs ++ [])) us (vs ++ ws) a (both-of f ys (zs ++ []) vs ws b (last-of f zs ws c)) ∙ sym (append_assoc us vs ws)
 
--- what stands in two parts, the second one when the first one is out
-pub stand-both : {A : Type 0} (xs out : List (Option A)) (ys zs : List ℕ) (ts us : List (ℕ × A)) → out ≡ taken ys xs → map (λ (t : ℕ × A). t.0) us ≡ zs → AreDifferent (ys ++ zs)
-    → Stand xs ts → Stand out us → Stand xs (ts ++ us)
-stand-both {A} xs out ys zs ts us e is apart st st2 =
-    each-append _ ts us st (stand-others xs out ys us e (each-number (λ z. Each (λ y. z ≢ y) ys) us (subst (λ (vs : List ℕ). Each (λ z. Each (λ y. z ≢ y) ys) vs) (sym is) (each-apart ys zs apart))) st2)
+four-of : {A B : Type 0} (f : A → B) (xs ys zs ts : List A) (us vs ws ss : List B) → map f xs ≡ us → map f ys ≡ vs → map f zs ≡ ws → map f ts ≡ ss
+    → map f (xs ++ (ys ++ (zs ++ (ts ++ [])))) ≡ (us ++ vs) ++ (ws ++ ss)
+four-of f xs ys zs ts us vs ws ss a b c d =
+    both-of f xs (ys ++ (zs ++ (ts ++ []))) us (vs ++ (ws ++ ss)) a (both-of f ys (zs ++ (ts ++ [])) vs (ws ++ ss) b (both-of f zs (ts ++ []) ws ss c (last-of f ts ss d)))
+    ∙ sym (append_assoc us vs (ws ++ ss))
 
--- A cell at times.
+-- Steps.
 
-pub if-number : (y : ℕ) (wanted : Bool) (cell : Option Cell) → is_some cell ≡ wanted → numbers_in (cell_if y cell) ≡ number_if y wanted
-if-number y wanted cell is = subst (λ (b : Bool). numbers_in (cell_if y cell) ≡ number_if y b) is (of-it cell)
-  where
-    of-it : (cell : Option Cell) → numbers_in (cell_if y cell) ≡ number_if y (is_some cell)
-    of-it None = refl
-    of-it (Some c) = refl
+-- the end of a part that is pinned
+pub pinned-went : {h : List Dimension} {Sees : Setting → World → ℕ → Type 0} {gate_at desk_at : ℕ} (gate gate_now : Option Cell) {desk desk_now : Cell} {o o_now : Others} {a b : ActorValue} → is_some gate ≡ true → is_some gate_now ≡ is_some gate
+    → Makes h FinishPart (change_if gate_at (option_map cell_of gate) (option_map cell_of gate_now) ++ change desk_at (cell_of desk) (cell_of desk_now) ∷ []) a b
+    → Went h FinishPart Sees (two_at gate_at desk_at) (held gate (Some desk) o) (held gate_now (Some desk_now) o_now) a b
+pinned-went None gate_now some is made = absurd (cc)
+pinned-went (Some g) None some is made = absurd (cc)
+pinned-went (Some g) (Some g2) some is made = record { makes = made; sight = λ s w n sees. tt }
 
--- what the first of some cells is, and the others, where it is wanted
-pub first-is : (y : ℕ) (wanted : Bool) (cell : Option Cell) (others : List (ℕ × Cell)) → is_some cell ≡ wanted
-    → (first_if wanted (values_in (cell_if y cell ++ others)) ≡ option_map cell_of cell) × (rest_if wanted (values_in (cell_if y cell ++ others)) ≡ values_in others)
-first-is y wanted cell others is =
-    subst (λ (b : Bool). (first_if b (values_in (cell_if y cell ++ others)) ≡ option_map cell_of cell) × (rest_if b (values_in (cell_if y cell ++ others)) ≡ values_in others)) is (of-it cell)
-  where
-    of-it : (cell : Option Cell)
-        → (first_if (is_some cell) (values_in (cell_if y cell ++ others)) ≡ option_map cell_of cell) × (rest_if (is_some cell) (values_in (cell_if y cell ++ others)) ≡ values_in others)
-    of-it None = (refl, refl)
-    of-it (Some c) = (refl, refl)
+-- A row goes down.
+module _ (h : List Dimension) (step : TreeStep) (parent_at place child_at : ℕ) (p q r : Option ℕ) (is : step ≡ tree.Down parent_at place child_at p q r)
+    (first second : Option Cell) (parent child : Cell) (o : Others) (one : first ≡ Some parent) (two : second ≡ Some child) (fill : Fill (tree_places step) (held first second o)) (a : ActorValue) where
+  abbrev row : List (Option ℕ)
+  row = tree_places (tree.Down parent_at place child_at p q r)
 
-pub only-is : (y : ℕ) (wanted : Bool) (cell : Option Cell) → is_some cell ≡ wanted → first_if wanted (values_in (cell_if y cell)) ≡ option_map cell_of cell
-only-is y wanted cell is = subst (λ (b : Bool). first_if b (values_in (cell_if y cell)) ≡ option_map cell_of cell) is (of-it cell)
-  where
-    of-it : (cell : Option Cell) → first_if (is_some cell) (values_in (cell_if y cell)) ≡ option_map cell_of cell
-    of-it None = refl
-    of-it (Some c) = refl
+  -- what is known of the cells, with the step and the first two cells at hand
+  known : (P : List (Option ℕ) → List (Option Cell) → Type 0) → P (tree_places step) (held first second o) → P row (held (Some parent) (Some child) o)
+  known P k = subst (λ (s : TreeStep). P (tree_places s) (held (Some parent) (Some child) o)) is
+      (subst (λ (c : Option Cell). P (tree_places step) (held (Some parent) c o)) two (subst (λ (c : Option Cell). P (tree_places step) (held c second o)) one k))
 
--- two, and more behind them
-module _ (a b : HeldIf) (x y : Option Cell) (some : (is_some x ≡ a.wanted) × (is_some y ≡ b.wanted)) (more : List (ℕ × Cell)) where
-  abbrev pub all : List CellValue
-  all = values_in ((cell_if a.at x ++ cell_if b.at y) ++ more)
+  filled : (is_some o.third ≡ is_some p) × (is_some o.fourth ≡ is_some q) × (is_some o.fifth ≡ is_some r)
+  filled =
+      let all : ◌≡◌ {A = List Bool} (true ∷ true ∷ is_some o.third ∷ is_some o.fourth ∷ is_some o.fifth ∷ is_some o.sixth ∷ is_some o.seventh ∷ []) (true ∷ true ∷ is_some p ∷ is_some q ∷ is_some r ∷ false ∷ false ∷ []) = known Fill fill in
+      (cc, cc, cc)
 
-  pub first-of-two : first_if a.wanted all ≡ option_map cell_of x
-  first-of-two = ap (λ (l : List (ℕ × Cell)). first_if a.wanted (values_in l)) (append_assoc (cell_if a.at x) (cell_if b.at y) more) ∙ (first-is a.at a.wanted x (cell_if b.at y ++ more) some.0).0
+  pub down-here : (x y z : ℕ) → x ≡ number_of p → y ≡ number_of q → z ≡ number_of r → IsHere h (still (things (tree_places step) (held first second o))) a
+      → IsHere h (held_still parent_at (cell_of parent) ∷ held_still child_at (cell_of child) ∷ two_if x (option_map cell_of o.third) y (option_map cell_of o.fourth) ++ held_if z (option_map cell_of o.fifth)) a
+  down-here x y z ex ey ez here = subst (λ (cs : List Change). IsHere h (held_still parent_at (cell_of parent) ∷ held_still child_at (cell_of child) ∷ cs) a)
+      (three-of (λ (t : ℕ × Cell). change t.0 (cell_of t.1) (cell_of t.1)) (thing_at p o.third) (thing_at q o.fourth) (thing_at r o.fifth) _ _ _ (still-at p o.third x ex filled.0) (still-at q o.fourth y ey filled.1) (still-at r o.fifth z ez filled.2))
+      (known (λ row cells. IsHere h (still (things row cells)) a) here)
 
-  behind-one : rest_if a.wanted all ≡ values_in (cell_if b.at y ++ more)
-  behind-one = ap (λ (l : List (ℕ × Cell)). rest_if a.wanted (values_in l)) (append_assoc (cell_if a.at x) (cell_if b.at y) more) ∙ (first-is a.at a.wanted x (cell_if b.at y ++ more) some.0).1
+  pub down-went : (Sees : Setting → World → ℕ → Type 0) (x y z : ℕ) → x ≡ number_of p → y ≡ number_of q → z ≡ number_of r → (parent_now child_now : Cell) (o_now : Others) (b : ActorValue)
+      → Makes h Down (change parent_at (cell_of parent) (cell_of parent_now) ∷ change child_at (cell_of child) (cell_of child_now)
+      ∷ (change_if x (option_map cell_of o.third) (option_map cell_of o_now.third) ++ change_if y (option_map cell_of o.fourth) (option_map cell_of o_now.fourth))
+      ++ change_if z (option_map cell_of o.fifth) (option_map cell_of o_now.fifth)) a b
+      → Went h (tree_kind step) Sees (tree_places step) (held first second o) (held (Some parent_now) (Some child_now) o_now) a b
+  down-went Sees x y z ex ey ez parent_now child_now o_now b made =
+      let went : Went h Down Sees row (held (Some parent) (Some child) o) (held (Some parent_now) (Some child_now) o_now) a b = record {
+        makes = subst (λ (cs : List Change). Makes h Down (change parent_at (cell_of parent) (cell_of parent_now) ∷ change child_at (cell_of child) (cell_of child_now) ∷ cs) a b)
+            (sym (three-of _ (swap_at p o.third o_now.third) (swap_at q o.fourth o_now.fourth) (swap_at r o.fifth o_now.fifth) _ _ _
+            (changes-at p o.third o_now.third x ex filled.0) (changes-at q o.fourth o_now.fourth y ey filled.1) (changes-at r o.fifth o_now.fifth z ez filled.2))) made;
+        sight = λ s w n sees. tt;
+      } in
+      subst (λ (s : TreeStep). Went h (tree_kind s) Sees (tree_places s) (held first second o) (held (Some parent_now) (Some child_now) o_now) a b) (sym is)
+      (subst (λ (c : Option Cell). Went h Down Sees row (held c second o) (held (Some parent_now) (Some child_now) o_now) a b) (sym one)
+      (subst (λ (c : Option Cell). Went h Down Sees row (held (Some parent) c o) (held (Some parent_now) (Some child_now) o_now) a b) (sym two) went))
 
-  pub second-of-two : first_if b.wanted (rest_if a.wanted all) ≡ option_map cell_of y
-  second-of-two = ap (λ (vs : List CellValue). first_if b.wanted vs) behind-one ∙ (first-is b.at b.wanted y more some.1).0
+-- A row comes in at a gate.
+module _ (h : List Dimension) (step : TreeStep) (map_at gate_at root_at : ℕ) (p q r t : Option ℕ) (is : step ≡ tree.EnterTree map_at gate_at root_at p q r t)
+    (first second : Option Cell) (table gate root : Cell) (o : Others) (one : first ≡ Some table) (two : second ≡ Some gate) (three : o.third ≡ Some root) (fill : Fill (tree_places step) (held first second o)) (a : ActorValue) where
+  abbrev at : List (Option ℕ)
+  at = tree_places (tree.EnterTree map_at gate_at root_at p q r t)
 
-  pub behind-two : rest_if b.wanted (rest_if a.wanted all) ≡ values_in more
-  behind-two = ap (λ (vs : List CellValue). rest_if b.wanted vs) behind-one ∙ (first-is b.at b.wanted y more some.1).1
+  abbrev rest : Others → List (Option Cell)
+  rest x = x.fourth ∷ x.fifth ∷ x.sixth ∷ x.seventh ∷ []
 
--- What a driver moved out.
+  seen : (P : List (Option ℕ) → List (Option Cell) → Type 0) → P (tree_places step) (held first second o) → P at (Some table ∷ Some gate ∷ Some root ∷ rest o)
+  seen P k = subst (λ (s : TreeStep). P (tree_places s) (Some table ∷ Some gate ∷ Some root ∷ rest o)) is
+      (subst (λ (c : Option Cell). P (tree_places step) (Some table ∷ Some gate ∷ c ∷ rest o)) three
+      (subst (λ (c : Option Cell). P (tree_places step) (held (Some table) c o)) two (subst (λ (c : Option Cell). P (tree_places step) (held c second o)) one k)))
 
--- these stood at their places, of which they are all
-pub record Out (cells out : List (Option Cell)) (numbers : List ℕ) (things : List (ℕ × Cell)) : Type 0 where
-  pub stand : Stand cells things
-  pub rest : out ≡ taken numbers cells
-  pub named : numbers_in things ≡ numbers
+  others : (is_some o.fourth ≡ is_some p) × (is_some o.fifth ≡ is_some q) × (is_some o.sixth ≡ is_some r) × (is_some o.seventh ≡ is_some t)
+  others =
+      let all : ◌≡◌ {A = List Bool} (true ∷ true ∷ true ∷ is_some o.fourth ∷ is_some o.fifth ∷ is_some o.sixth ∷ is_some o.seventh ∷ []) (true ∷ true ∷ true ∷ is_some p ∷ is_some q ∷ is_some r ∷ is_some t ∷ []) = seen Fill fill in
+      (cc, cc, cc, cc)
 
--- some and then others
-pub out-both : (cells between out : List (Option Cell)) (ys zs : List ℕ) (ts us : List (ℕ × Cell)) → AreDifferent (ys ++ zs) → Out cells between ys ts → Out between out zs us → Out cells out (ys ++ zs) (ts ++ us)
-out-both cells between out ys zs ts us apart one two = record {
-  stand = stand-both cells between ys zs ts us one.rest two.named apart one.stand two.stand;
-  rest = taken-both cells between out ys zs one.rest two.rest;
-  named = joined _ ts us ys zs one.named two.named;
-}
+  pub enter-here : (x y z u : ℕ) → x ≡ number_of p → y ≡ number_of q → z ≡ number_of r → u ≡ number_of t → IsHere h (still (things (tree_places step) (held first second o))) a
+      → IsHere h (held_still map_at (cell_of table) ∷ held_still gate_at (cell_of gate) ∷ held_still root_at (cell_of root)
+      ∷ two_if x (option_map cell_of o.fourth) y (option_map cell_of o.fifth) ++ two_if z (option_map cell_of o.sixth) u (option_map cell_of o.seventh)) a
+  enter-here x y z u ex ey ez eu here = subst (λ (cs : List Change). IsHere h (held_still map_at (cell_of table) ∷ held_still gate_at (cell_of gate) ∷ held_still root_at (cell_of root) ∷ cs) a)
+      (four-of (λ (k : ℕ × Cell). change k.0 (cell_of k.1) (cell_of k.1)) (thing_at p o.fourth) (thing_at q o.fifth) (thing_at r o.sixth) (thing_at t o.seventh) _ _ _ _
+      (still-at p o.fourth x ex others.0) (still-at q o.fifth y ey others.1) (still-at r o.sixth z ez others.2) (still-at t o.seventh u eu others.3))
+      (seen (λ row cells. IsHere h (still (things row cells)) a) here)
 
--- one at times
-pub out-if : (cells out : List (Option Cell)) (y : ℕ) (wanted : Bool) (cell : Option Cell) → is_some cell ≡ wanted → Stand cells (cell_if y cell) → out ≡ taken (number_if y wanted) cells → Out cells out (number_if y wanted) (cell_if y cell)
-out-if cells out y wanted cell is stand rest = record { stand = stand; rest = rest; named = if-number y wanted cell is }
-
--- two at times
-pub out-two : (cells out : List (Option Cell)) (a b : HeldIf) (x y : Option Cell) → (is_some x ≡ a.wanted) × (is_some y ≡ b.wanted) → Stand cells (cell_if a.at x ++ cell_if b.at y)
-    → out ≡ taken (number_of a ++ number_of b) cells → Out cells out (number_of a ++ number_of b) (cell_if a.at x ++ cell_if b.at y)
-out-two cells out a b x y some stand rest = record {
-  stand = stand;
-  rest = rest;
-  named = joined _ (cell_if a.at x) (cell_if b.at y) _ _ (if-number a.at a.wanted x some.0) (if-number b.at b.wanted y some.1);
-}
-
--- their places are there still
-pub in-two : (cells out : List (Option Cell)) (a b : HeldIf) (x y x_now y_now : Option Cell) → length out ≡ length cells → is_some x_now ≡ is_some x → is_some y_now ≡ is_some y
-    → Stand cells (cell_if a.at x ++ cell_if b.at y) → Each (λ (t : ℕ × Cell). t.0 < length out) (cell_if a.at x_now ++ cell_if b.at y_now)
-in-two cells out a b x y x_now y_now long held held2 stand =
-    each-append _ (cell_if a.at x_now) (cell_if b.at y_now)
-    (if-within cells out a.at x x_now long held (each-left _ (cell_if a.at x) (cell_if b.at y) stand))
-    (if-within cells out b.at y y_now long held2 (each-right _ (cell_if a.at x) (cell_if b.at y) stand))
-
-module _ (h : List Dimension) (cells out : List (Option Cell)) (actors : List (Option Actor)) (has : HasInv h cells actors) (n : ℕ) (Can : List CellValue → ActorValue → Type 0)
-    (numbers : List ℕ) (things : List (ℕ × Cell)) (may : MayStep cells actors numbers n Can) (is : Out cells out numbers things) (a : Actor) (actor : get_or actors n None ≡ Some a) where
-  may-named : MayStep cells actors (numbers_in things) n Can
-  may-named = subst (λ (ys : List ℕ). MayStep cells actors ys n Can) (sym is.named) may
-
-  -- they are what a step may hold
-  pub hold-out : MayHold cells actors things n a
-  hold-out = may-hold h cells actors has n Can things may-named is.stand a actor
-
-  -- and what its kind asks for
-  pub can-out : Can (values_in things) (actor_of a)
-  can-out = can-step h cells actors has n Can things may-named is.stand a actor
-
-  pub here-out : (changes : List Change) → still things ≡ changes → IsHere h changes (actor_of a)
-  here-out changes e = subst (λ (cs : List Change). IsHere h cs (actor_of a)) e (step-here h cells actors has n Can things may-named is.stand a actor)
+  pub enter-went : (Sees : Setting → World → ℕ → Type 0) (x y z u : ℕ) → x ≡ number_of p → y ≡ number_of q → z ≡ number_of r → u ≡ number_of t → (table_now gate_now root_now : Cell) (o_now : Others) → o_now.third ≡ Some root_now → (b : ActorValue)
+      → Makes h EnterTree (change map_at (cell_of table) (cell_of table_now) ∷ change gate_at (cell_of gate) (cell_of gate_now) ∷ change root_at (cell_of root) (cell_of root_now)
+      ∷ (change_if x (option_map cell_of o.fourth) (option_map cell_of o_now.fourth) ++ change_if y (option_map cell_of o.fifth) (option_map cell_of o_now.fifth))
+      ++ (change_if z (option_map cell_of o.sixth) (option_map cell_of o_now.sixth) ++ change_if u (option_map cell_of o.seventh) (option_map cell_of o_now.seventh))) a b
+      → Went h (tree_kind step) Sees (tree_places step) (held first second o) (held (Some table_now) (Some gate_now) o_now) a b
+  enter-went Sees x y z u ex ey ez eu table_now gate_now root_now o_now third_now b made =
+      let went : Went h EnterTree Sees at (Some table ∷ Some gate ∷ Some root ∷ rest o) (Some table_now ∷ Some gate_now ∷ Some root_now ∷ rest o_now) a b = record {
+        makes = subst (λ (cs : List Change). Makes h EnterTree (change map_at (cell_of table) (cell_of table_now) ∷ change gate_at (cell_of gate) (cell_of gate_now) ∷ change root_at (cell_of root) (cell_of root_now) ∷ cs) a b)
+            (sym (four-of _ (swap_at p o.fourth o_now.fourth) (swap_at q o.fifth o_now.fifth) (swap_at r o.sixth o_now.sixth) (swap_at t o.seventh o_now.seventh) _ _ _ _
+            (changes-at p o.fourth o_now.fourth x ex others.0) (changes-at q o.fifth o_now.fifth y ey others.1) (changes-at r o.sixth o_now.sixth z ez others.2) (changes-at t o.seventh o_now.seventh u eu others.3))) made;
+        sight = λ s w n sees. tt;
+      } in
+      subst (λ (s : TreeStep). Went h (tree_kind s) Sees (tree_places s) (held first second o) (held (Some table_now) (Some gate_now) o_now) a b) (sym is)
+      (subst (λ (c : Option Cell). Went h EnterTree Sees at (held c second o) (held (Some table_now) (Some gate_now) o_now) a b) (sym one)
+      (subst (λ (c : Option Cell). Went h EnterTree Sees at (held (Some table) c o) (held (Some table_now) (Some gate_now) o_now) a b) (sym two)
+      (subst (λ (c : Option Cell). Went h EnterTree Sees at (Some table ∷ Some gate ∷ c ∷ rest o) (held (Some table_now) (Some gate_now) o_now) a b) (sym three)
+      (subst (λ (c : Option Cell). Went h EnterTree Sees at (Some table ∷ Some gate ∷ Some root ∷ rest o) (Some table_now ∷ Some gate_now ∷ c ∷ rest o_now) a b) (sym third_now) went))))

@@ -1,8 +1,11 @@
-pub mod Ready
-pub mod Staying
+pub mod Filling
+pub mod Two
+pub mod Vectors
+pub mod Held
+pub mod Arms
+pub mod Made
+pub mod Five
 pub mod AtTimes
-pub mod Adding
-pub mod Sights
 pub mod Quiet
-pub mod PageSights
-pub mod Lent
+pub mod BookTold
+pub mod JobMade

@@ -1,11 +1,13 @@
 -- The events of steps by which a command goes on or ends begin nothing.
-use Rattle.std.proofs.Common.{ℕ, ◌≡◌, List, ◌∷◌, false, Some, refl, sym, ap, ◌∙◌, subst}
-use Rattle.core_steps.specs.Added.{EndsIn}
-use Rattle.core_steps.proofs.Sights.{one-or-none}
+use Rattle.std.proofs.Common.{ℕ, ◌≡◌, List, ◌∷◌, Option, false, None, Some, refl, sym, ap, ◌∙◌, subst}
+use Rattle.core_steps.specs.Books.{EndsIn}
 use Rattle.dim_hierarchy.specs.Dimension.{Dimension}
 use Rattle.row_ledger.specs.{Past.is_beginning, declared.event.Event.Event}
 use Rattle.row_ledger.specs.declared.event.Event.TheVariants as event
 use Rattle.volap_cell.specs.{Cells.{CellValue, DeskOf, TheLedger, ledger_in, tag_of}, ImageKinds.{DoesAck, DoesAnswer, DoesNote, DoesNoteWith, DoesSync, FailsRouted, OfCalled, OfCalledAsking, OfCount, OfEnded, OfLeft, OfQuery, OfRefused, OfShown, OfUnknown, OfUnrouted, Pushes}, Values.ActorValue, World.Change, declared.command.Command.Command}
+
+one-or-none : {P : Type 0} {o : Option Command} {c : Command} → o ≡ None → o ≡ Some c → P
+one-or-none {P} {o} {c} e f = (let k : None ≡ Some c = sym e ∙ f in absurd (cc))
 
 pushed : (e : Event) (more used : ℕ) (l : Change) (seen : ℕ) → is_beginning e ≡ false → Pushes e more used l seen → EndsIn l.before l.now
 pushed e more used l seen quiet p = (

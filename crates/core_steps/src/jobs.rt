@@ -1,155 +1,278 @@
-//! The steps of the administrator's splits and moves, as far as all new blocks are in their cells; and of those that are given up.
-ghost use Rattle.std.specs.Prelude.{[], ◌∷◌, OnErr, OnOk};
-ghost use Rattle.core_steps.specs.AskedJobs.{FillsNext, FreezesShard, GivesJobUp, MakesNewTrees, ReadsNoted, SeesDrained, TakesQueued};
-ghost use Rattle.core_steps.specs.Ready.{MayStep, Stays};
-ghost use Rattle.volap_cell.specs.State.{HasInv, Stepped};
-ghost use Rattle.volap_cell.specs.declared.kind.Kind.TheVariants.{BuildBlock, Collect, Drained, Freeze, Postpone};
+//! The steps that the administrator makes for a split, a move or a balance.
 
+use crate::lending::lent;
+use crate::places::{ledger_place, registry_place, stock_place};
+use crate::step::{CellStep, Others, Places};
 use dim_hierarchy::Hierarchy;
 use std::alloc::{AllocError, Global};
-use volap_cell::{State, lift_three, lift_two, put_three, put_two};
+use volap_cell::{Actor, Cell};
 
-/// The shard of an actor's job is frozen, or the job is declined: with its worker's table, the gate to which that leads,
-/// and the stock. Where memory is wanting, the state stays as it was.
-pub fn freeze(
-    alloc: Global,
-    h: &Hierarchy,
-    state: &mut State,
-    number: usize,
-    map_at: u32,
-    gate_at: u32,
-    stock_at: u32,
-) -> Result<(), AllocError>
-    requires state { HasInv h.now state.old.cells.items state.old.actors.items }
-    requires ready { MayStep state.old.cells.items state.old.actors.items (map_at ∷ gate_at ∷ stock_at ∷ []) number (FreezesShard map_at gate_at) }
-    ensures stepped { OnOk result (Stepped h.now Freeze number state.old.cells.items state.old.actors.items state.new.cells.items state.new.actors.items) }
-    ensures stays { OnErr result (Stays state.old.cells.items state.old.actors.items state.new.cells.items state.new.actors.items) }
-{
-    let (cells, actors) = (&mut state.cells, &mut state.actors);
-    let (mut map, mut gate, mut stock) = lift_three(cells, map_at, gate_at, stock_at);
-    let Some(actor) = &mut actors[number] else {
-        unreachable!()
-    };
-    let made = core_admin::freeze(
-        alloc, h, map_at, &mut map, gate_at, &mut gate, stock_at, &mut stock, actor,
-    );
-    put_three(cells, map_at, map, gate_at, gate, stock_at, stock);
-    made
+/// A step of the administrator's job, or of its balance.
+#[derive(Drop)]
+pub enum JobStep {
+    /// The balance reads how many rows a shard has, at the gate to which the table leads; there are so many
+    /// workers.
+    ReadLoad {
+        map: u32,
+        gate: u32,
+        workers: u8,
+    },
+    /// The shard of the gate, to which the table leads, is frozen, or the job is declined.
+    Freeze {
+        map: u32,
+        gate: u32,
+    },
+    /// The tree at the gate has no insert any more, and the job goes on to collect rows.
+    Drained {
+        gate: u32,
+    },
+    /// The block that the job noted last is read.
+    CollectBlock {
+        block: u32,
+    },
+    /// The next row of the gate's queue is collected.
+    CollectRow {
+        gate: u32,
+    },
+    /// The new trees are made of the rows that were collected from the gate.
+    BuildTrees {
+        gate: u32,
+    },
+    /// The last block that isn't in its cell yet is put there.
+    BuildBlock {
+        cell: u32,
+    },
+    /// The shard of the gate is replaced by the children at the new gates.
+    FinishSplit {
+        map: u32,
+        gate: u32,
+        left: u32,
+        right: u32,
+    },
+    /// The shard of the gate goes to the new gate at another worker.
+    FinishMove {
+        from: u32,
+        to: u32,
+        gate: u32,
+        new: u32,
+    },
+    /// The shard of the gate goes to the new gate at the same worker.
+    FinishHere {
+        map: u32,
+        gate: u32,
+        new: u32,
+    },
+    /// The job is given up, whose shard is frozen and stays so.
+    Postpone,
 }
 
-/// An actor's job goes on to collect its shard's rows, in whose tree no insert is any more. Takes no memory; the
-/// allocator is that of the lists of what is collected.
-pub fn drained(alloc: Global, h: &Hierarchy, state: &mut State, number: usize, gate_at: u32)
-    requires state { HasInv h.now state.old.cells.items state.old.actors.items }
-    requires ready { MayStep state.old.cells.items state.old.actors.items (gate_at ∷ []) number (SeesDrained gate_at) }
-    ensures stepped { Stepped h.now Drained number state.old.cells.items state.old.actors.items state.new.cells.items state.new.actors.items }
-{
-    let (cells, actors) = (&mut state.cells, &mut state.actors);
-    let Some(gate) = &mut cells[gate_at as usize] else {
-        unreachable!()
-    };
-    let Some(actor) = &mut actors[number] else {
-        unreachable!()
-    };
-    core_admin::drained(alloc, h, gate_at, gate, actor);
-}
+impl CellStep for JobStep {
+    ghost use Rattle.std.specs.Prelude.{⊤};
+    ghost use Rattle.core_steps.specs.Jobs.{job_asks, job_kind, job_may_fail, job_places};
 
-/// An actor's job reads the block that it noted last. Where memory is wanting, the state stays as it was.
-pub fn collect_block(
-    h: &Hierarchy,
-    state: &mut State,
-    number: usize,
-    block_at: u32,
-) -> Result<(), AllocError>
-    requires state { HasInv h.now state.old.cells.items state.old.actors.items }
-    requires ready { MayStep state.old.cells.items state.old.actors.items (block_at ∷ []) number (ReadsNoted block_at) }
-    ensures stepped { OnOk result (Stepped h.now Collect number state.old.cells.items state.old.actors.items state.new.cells.items state.new.actors.items) }
-    ensures stays { OnErr result (Stays state.old.cells.items state.old.actors.items state.new.cells.items state.new.actors.items) }
-{
-    let (cells, actors) = (&mut state.cells, &mut state.actors);
-    let Some(block) = &mut cells[block_at as usize] else {
-        unreachable!()
-    };
-    let Some(actor) = &mut actors[number] else {
-        unreachable!()
-    };
-    core_admin::collect_block(h, block_at, block, actor)
-}
+    ghost kind = { job_kind };
 
-/// An actor's job collects the next row of the gate's queue. Where memory is wanting, the state stays as it was.
-pub fn collect_row(
-    h: &Hierarchy,
-    state: &mut State,
-    number: usize,
-    gate_at: u32,
-) -> Result<(), AllocError>
-    requires state { HasInv h.now state.old.cells.items state.old.actors.items }
-    requires ready { MayStep state.old.cells.items state.old.actors.items (gate_at ∷ []) number (TakesQueued gate_at) }
-    ensures stepped { OnOk result (Stepped h.now Collect number state.old.cells.items state.old.actors.items state.new.cells.items state.new.actors.items) }
-    ensures stays { OnErr result (Stays state.old.cells.items state.old.actors.items state.new.cells.items state.new.actors.items) }
-{
-    let (cells, actors) = (&mut state.cells, &mut state.actors);
-    let Some(gate) = &mut cells[gate_at as usize] else {
-        unreachable!()
-    };
-    let Some(actor) = &mut actors[number] else {
-        unreachable!()
-    };
-    core_admin::collect_row(h, gate_at, gate, actor)
-}
+    ghost places = { job_places };
 
-/// An actor's job makes the new trees of the rows that it has collected. Where memory is wanting, the state stays as
-/// it was.
-pub fn build_trees(
-    alloc: Global,
-    h: &Hierarchy,
-    state: &mut State,
-    number: usize,
-    gate_at: u32,
-) -> Result<(), AllocError>
-    requires state { HasInv h.now state.old.cells.items state.old.actors.items }
-    requires ready { MayStep state.old.cells.items state.old.actors.items (gate_at ∷ []) number (MakesNewTrees gate_at) }
-    ensures stepped { OnOk result (Stepped h.now Collect number state.old.cells.items state.old.actors.items state.new.cells.items state.new.actors.items) }
-    ensures stays { OnErr result (Stays state.old.cells.items state.old.actors.items state.new.cells.items state.new.actors.items) }
-{
-    let (cells, actors) = (&mut state.cells, &mut state.actors);
-    let Some(gate) = &mut cells[gate_at as usize] else {
-        unreachable!()
-    };
-    let Some(actor) = &mut actors[number] else {
-        unreachable!()
-    };
-    core_admin::build_trees(alloc, h, gate_at, gate, actor)
-}
+    ghost asks = { job_asks };
 
-/// The last block of an actor's job that isn't in its cell yet is put there. Takes no memory; the allocator is that
-/// of the job's list of blocks.
-pub fn build_block(alloc: Global, h: &Hierarchy, state: &mut State, number: usize, at: u32)
-    requires state { HasInv h.now state.old.cells.items state.old.actors.items }
-    requires ready { MayStep state.old.cells.items state.old.actors.items (at ∷ []) number (FillsNext at) }
-    ensures stepped { Stepped h.now BuildBlock number state.old.cells.items state.old.actors.items state.new.cells.items state.new.actors.items }
-{
-    let (cells, actors) = (&mut state.cells, &mut state.actors);
-    let Some(cell) = &mut cells[at as usize] else {
-        unreachable!()
-    };
-    let Some(actor) = &mut actors[number] else {
-        unreachable!()
-    };
-    core_admin::build_block(alloc, h, at, cell, actor);
-}
+    ghost sees = { λ step s w n. ⊤ };
 
-/// An actor's job is given up, whose shard stays frozen: with the stock and the ledger. Takes no memory.
-pub fn postpone(h: &Hierarchy, state: &mut State, number: usize, stock_at: u32, ledger_at: u32)
-    requires state { HasInv h.now state.old.cells.items state.old.actors.items }
-    requires ready { MayStep state.old.cells.items state.old.actors.items (stock_at ∷ ledger_at ∷ []) number GivesJobUp }
-    ensures stepped { Stepped h.now Postpone number state.old.cells.items state.old.actors.items state.new.cells.items state.new.actors.items }
-{
-    let (cells, actors) = (&mut state.cells, &mut state.actors);
-    let (mut stock, mut ledger) = lift_two(cells, stock_at, ledger_at);
-    let Some(actor) = &mut actors[number] else {
-        unreachable!()
-    };
-    core_admin::postpone(h, stock_at, &mut stock, ledger_at, &mut ledger, actor);
-    put_two(cells, stock_at, stock, ledger_at, ledger);
+    ghost tells = { λ step a was now. ⊤ };
+
+    ghost may_fail = { job_may_fail };
+
+    fn places(&self) -> Places {
+        match self {
+            JobStep::ReadLoad { map, gate, .. } => Places::Two(*map, *gate),
+            JobStep::Freeze { map, gate } => {
+                Places::Many(*map, *gate, [Some(stock_place()), None, None, None, None])
+            }
+            JobStep::Drained { gate }
+            | JobStep::CollectRow { gate }
+            | JobStep::BuildTrees { gate } => Places::One(*gate),
+            JobStep::CollectBlock { block } => Places::One(*block),
+            JobStep::BuildBlock { cell } => Places::One(*cell),
+            JobStep::FinishSplit {
+                map,
+                gate,
+                left,
+                right,
+            } => Places::Many(
+                *map,
+                *gate,
+                [
+                    Some(*left),
+                    Some(*right),
+                    Some(registry_place()),
+                    Some(stock_place()),
+                    Some(ledger_place()),
+                ],
+            ),
+            JobStep::FinishMove {
+                from,
+                to,
+                gate,
+                new,
+            } => Places::Many(
+                *from,
+                *to,
+                [
+                    Some(*gate),
+                    Some(*new),
+                    Some(registry_place()),
+                    Some(stock_place()),
+                    Some(ledger_place()),
+                ],
+            ),
+            JobStep::FinishHere { map, gate, new } => Places::Many(
+                *map,
+                *gate,
+                [
+                    Some(*new),
+                    Some(registry_place()),
+                    Some(stock_place()),
+                    Some(ledger_place()),
+                    None,
+                ],
+            ),
+            JobStep::Postpone => Places::Two(stock_place(), ledger_place()),
+        }
+    }
+
+    fn run(
+        self,
+        alloc: Global,
+        h: &Hierarchy,
+        first: &mut Option<Cell>,
+        second: &mut Option<Cell>,
+        others: &mut Others,
+        actor: &mut Actor,
+    ) -> Result<(), AllocError> {
+        match self {
+            JobStep::ReadLoad { map, gate, workers } => {
+                core_admin::read_load(
+                    alloc,
+                    h,
+                    map,
+                    lent(first),
+                    gate,
+                    lent(second),
+                    actor,
+                    workers,
+                );
+                Ok(())
+            }
+            JobStep::Freeze { map, gate } => {
+                core_admin::freeze(
+                    alloc,
+                    h,
+                    map,
+                    lent(first),
+                    gate,
+                    lent(second),
+                    stock_place(),
+                    lent(&mut others.third),
+                    actor,
+                )
+            }
+            JobStep::Drained { gate } => {
+                core_admin::drained(alloc, h, gate, lent(first), actor);
+                Ok(())
+            }
+            JobStep::CollectBlock { block } => {
+                core_admin::collect_block(h, block, lent(first), actor)
+            }
+            JobStep::CollectRow { gate } => core_admin::collect_row(h, gate, lent(first), actor),
+            JobStep::BuildTrees { gate } => {
+                core_admin::build_trees(alloc, h, gate, lent(first), actor)
+            }
+            JobStep::BuildBlock { cell } => {
+                core_admin::build_block(alloc, h, cell, lent(first), actor);
+                Ok(())
+            }
+            JobStep::FinishSplit {
+                map,
+                gate,
+                left,
+                right,
+            } => {
+                core_admin::finish_split(
+                    alloc,
+                    h,
+                    map,
+                    lent(first),
+                    gate,
+                    lent(second),
+                    left,
+                    lent(&mut others.third),
+                    right,
+                    lent(&mut others.fourth),
+                    registry_place(),
+                    lent(&mut others.fifth),
+                    stock_place(),
+                    lent(&mut others.sixth),
+                    ledger_place(),
+                    lent(&mut others.seventh),
+                    actor,
+                )
+            }
+            JobStep::FinishMove {
+                from,
+                to,
+                gate,
+                new,
+            } => {
+                core_admin::finish_move(
+                    alloc,
+                    h,
+                    from,
+                    lent(first),
+                    to,
+                    lent(second),
+                    gate,
+                    lent(&mut others.third),
+                    new,
+                    lent(&mut others.fourth),
+                    registry_place(),
+                    lent(&mut others.fifth),
+                    stock_place(),
+                    lent(&mut others.sixth),
+                    ledger_place(),
+                    lent(&mut others.seventh),
+                    actor,
+                )
+            }
+            JobStep::FinishHere { map, gate, new } => {
+                core_admin::finish_here(
+                    alloc,
+                    h,
+                    map,
+                    lent(first),
+                    gate,
+                    lent(second),
+                    new,
+                    lent(&mut others.third),
+                    registry_place(),
+                    lent(&mut others.fourth),
+                    stock_place(),
+                    lent(&mut others.fifth),
+                    ledger_place(),
+                    lent(&mut others.sixth),
+                    actor,
+                )
+            }
+            JobStep::Postpone => {
+                core_admin::postpone(
+                    h,
+                    stock_place(),
+                    lent(first),
+                    ledger_place(),
+                    lent(second),
+                    actor,
+                );
+                Ok(())
+            }
+        }
+    }
 }

@@ -1,28 +1,23 @@
-//! Each kind of step, made in a state that one thread holds: it is made with the actor where it stands, and with its cell too
-//! where that is one; more cells are moved out and put back.
+//! A step of the core as a value, over the cells that it holds; and the one driver that makes it in a state that one thread holds.
 #![tactic(auto)]
 
 mod books;
-mod fails;
-mod finishes;
-mod held;
+mod driver;
 mod jobs;
-mod loads;
+mod lending;
+mod moving;
 mod notes;
 mod parts;
-mod shown;
+mod places;
+mod step;
 mod trees;
 
-pub use books::{ack, answer, begin_insert, begin_query, route, sync};
-pub use fails::{fail_query, fail_routed, fail_unrouted};
-pub use finishes::{finish_here, finish_move, finish_split};
-pub use held::HeldIf;
-pub use jobs::{build_block, build_trees, collect_block, collect_row, drained, freeze, postpone};
-pub use loads::read_load;
-pub use notes::{note_asking, note_called, note_ended, note_left, note_refused, note_unknown};
-pub use parts::{expand, finish_part, forward, look_up, take_part};
-pub use shown::note_shown;
-pub use trees::{
-    block_visit, down, enter_queue, enter_tree, gate_read, give_back, leave_tree, put_in_leaf,
-    refill,
-};
+pub use books::BookStep;
+pub use driver::make;
+pub use jobs::JobStep;
+pub use lending::lent;
+pub use notes::NoteStep;
+pub use parts::PartStep;
+pub use places::{desk_place, image_place, ledger_place, map_place, registry_place, stock_place};
+pub use step::{CellStep, Others, Places};
+pub use trees::TreeStep;

@@ -12,7 +12,8 @@ use Rattle.script_run.proofs.{Begin.begins-own, Between.{get-behind, none-count,
 use Rattle.script_run.specs.{Between.IsInOrder, Parts.place_in, Phases.{closes, is_closing, ranks}, Places.{begins_of, count_of, is_over_at, session_of}, Runs.Begins, Streams.{NoneCloses, IsInPhase, IsReady, StepsOn}}
 use Rattle.volap_cell.specs.{Ghost.Ghost, ImageKinds.doing, Invariant.InvWith, Setting.Setting, Steps.history_in, View.view, World.World, declared.command.Command.Command as OpenCommand, declared.command.Work.Work, declared.role.Role.TheVariants.Hand}
 use Rattle.seeded_run.proofs.{Counted.counted-law, Cursors.Cursors.{first-law, is-one}, Cursors.Firsts.{IsFirst, first-at, first-fails, first-pass, first-some, over-at, over-place, over-still, over_in, place-behind, place-now, place_since}, Holding.LeftAlone.{IsAtCommand, alone-parts, apart, closing-alone, does-nothing, next-due, same-or-not}, Phases.Keeps.{Own, OwnPulls, behind-by, can-first, doing-is, idle-from, is-at-command, kept-by, none-some, one-more, opened-other}, Phases.PhaseRuns.{is-actor, low-or-high, opened-none, past-over, rest-past}, Phases.Pulled.{begin-pulls-none, deed-session, pulled-none}, Scripts.hand-behind, Told.told-law}
-use Rattle.seeded_run.specs.{Cursors.HasCursors, Due.{desk_of, does_nothing, is_alone}, Kept.{IsTurn, KeepsBeginningLaw, MovesOn, QuietLaw}, Rests.{PhaseRun, first_open, rest_of, stream_of}, Running.{HasPulled, IsRunning, RunsBehind, behind, is_closing_work, opened_in}, Told.{OfBeginning, OfDeed, OfEnd, OfNothing, OfPage, OfPull, OpensCommand, OpensNone, OpensOne, TellsBeginning, Told, begins_closing, is_of_part}}
+use Rattle.core_due.specs.Due.{desk_of, does_nothing}
+use Rattle.seeded_run.specs.{Cursors.HasCursors, Due.is_alone, Kept.{IsTurn, KeepsBeginningLaw, MovesOn, QuietLaw}, Rests.{PhaseRun, first_open, rest_of, stream_of}, Running.{HasPulled, IsRunning, RunsBehind, behind, is_closing_work, opened_in}, Told.{OfBeginning, OfDeed, OfEnd, OfNothing, OfPage, OfPull, OpensCommand, OpensNone, OpensOne, TellsBeginning, Told, begins_closing, is_of_part}}
 
 -- Lists of commands.
 

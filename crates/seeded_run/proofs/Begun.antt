@@ -9,8 +9,9 @@ use Rattle.volap_cell.specs.{Errands.way_of, Setting.Setting, Steps.history_in, 
 use Rattle.volap_cell.specs.declared.kind.Kind.TheVariants as kind
 use Rattle.volap_cell.specs.declared.role.Role.TheVariants as role
 use Rattle.volap_cell.proofs.Cells.States.{stands}
-use Rattle.seeded_run.specs.{Can.{can, is_carried_at}, Commands.may_begin, Due.{command_kind, due, desk_of, free_kind, is_alone, next_kind}, Look.HasNextNames, Machine.{BeginsNow, HasLeftOver, HasTurned, IsDueNow, IsDueStep, IsPhaseHeld, IsPhaseKept, TakesTurn, about_in, next_at, phase_of, world_of}, Rests.{first_open, rest_of}, Steps.{begins_by, begins_of_one, is_for_part}, Takes.{AsksHere, carries_at, free_by}, Told.is_of_part, declared.due_step.DueStep.TheVariants.{Begins, GoesOn}, declared.machine.Running.Running}
-use Rattle.seeded_run.proofs.{Cursors.Held.{none-past, rest-none, rest-some}, Due.DueSteps.{begins-apart, begins-by-none, goes-by-one, kind-of}, Holding.LeftAlone.{apart, at-command, both-parts, is-idle, off-part, or-true, same-or-not, true-or}, Phases.Movers.all-from, Phases.PhaseRuns.script, Ready.StepsReady.some-if}
+use Rattle.core_due.specs.{Due.desk_of, Wants.is_carried_at}
+use Rattle.seeded_run.specs.{Commands.may_begin, Due.{command_kind, due, free_kind, is_alone, next_kind}, Machine.{BeginsNow, HasLeftOver, HasTurned, IsDueNow, IsDueStep, IsPhaseHeld, IsPhaseKept, TakesTurn, about_in, next_at, phase_of, world_of}, Rests.{first_open, rest_of}, Steps.{begins_by, begins_of_one, is_for_part}, Takes.{AsksHere, carries_at, free_by}, Told.is_of_part, declared.turn.DueStep.TheVariants.Begins, declared.machine.Running.Running}
+use Rattle.seeded_run.proofs.{Cursors.Held.{none-past, rest-none, rest-some}, Due.DueSteps.{begins-apart, kind-of}, Holding.LeftAlone.{and-both, apart, at-command, both-parts, is-idle, off-part, or-true, same-or-not, true-or}, Phases.Movers.all-from, Phases.PhaseRuns.script}
 
 may-of : (actors : List (Option Actor)) (n : ℕ) (k : Kind) → begins_by actors n k ≡ true → may_begin k ≡ true
 may-of actors n k = by (get_or actors n None)
@@ -31,7 +32,8 @@ free-none : (s : Setting) (w : World) (alone : Bool) (rest : List Command) (r : 
 free-none s w alone rest (role.Hand worker) k none e = by _ e
   where
     by : (b : Bool) → (if b then Some kind.TakePart else None) ≡ Some k → may_begin k ≡ false
-    by b e = ap may_begin (sym (some-if b kind.TakePart k e))
+    by true e = (let same : kind.TakePart ≡ k = cc in ap may_begin (sym same))
+    by false e = cc
 free-none s w alone rest (role.Session server) k none e = none-next s.hierarchy alone (desk_of s w (role.Session server)) rest k none e
 free-none s w alone rest role.Puller k none e = none-next s.hierarchy alone (desk_of s w role.Puller) rest k none e
 free-none s w alone rest role.Admin k none e = none-next s.hierarchy alone (desk_of s w role.Admin) rest k none e
@@ -54,15 +56,7 @@ module _ (m : Running) (kept : IsPhaseKept m) (n : ℕ) where
       none-is None is = refl
       none-is (Some c) is = cc
 
-  -- the next command has its names
-  pub names-ahead : HasNextNames m.h.now (slice_get m.phase.now (next_at m n))
-  names-ahead = by (slice_get m.phase.now (next_at m n)) refl
-    where
-      by : (o : Option Command) → slice_get m.phase.now (next_at m n) ≡ o → HasNextNames m.h.now o
-      by None at = tt
-      by (Some c) at = (kept.may_run (next_at m n) c at).names
-
-  -- and a query is next for a session
+  -- a query is next for a session
   pub asks-ahead : n < length m.state.actors.items → AsksHere (get_or m.state.actors.items n None) (slice_get m.phase.now (next_at m n))
   asks-ahead within = by (slice_get m.phase.now (next_at m n)) refl
     where
@@ -98,16 +92,13 @@ module _ (m : Running) (kept : IsPhaseKept m) (n : ℕ) (within : n < length m.s
 
   -- it begins its next command
   pub begins-now : IsDueStep m n Begins → BeginsNow m n
-  begins-now is =
-      let k = kind-of m.in_order (about_in m) (phase_of m) (world_of m) n Begins is in
-      record { kind = k.0; due = record { due_is = k.1; can = k.2 }; begins = begins-seen k.0 ∙ begins-by-none (is_none ((world_of m).actors n).command) k.0 k.3 }
-
-  -- or it goes on by a kind that begins none
-  pub goes-now : (k : Kind) → IsDueStep m n (GoesOn k) → IsDueNow m n k × (begins_by m.state.actors.items n k ≡ false)
-  goes-now l is =
-      let k = kind-of m.in_order (about_in m) (phase_of m) (world_of m) n (GoesOn l) is in
-      let one = goes-by-one (is_none ((world_of m).actors n).command) k.0 l k.3 in
-      subst (λ x. IsDueNow m n x × (begins_by m.state.actors.items n x ≡ false)) one.0 (record { due_is = k.1; can = k.2 }, begins-seen k.0 ∙ one.1)
+  begins-now due =
+      let k = kind-of m.in_order (about_in m) (phase_of m) (world_of m) n Begins kept.core.inv due.is in
+      record {
+        kind = k.0;
+        due = record { due_is = k.1; can = k.2 };
+        begins = begins-seen k.0 ∙ and-both (is_none ((world_of m).actors n).command) (may_begin k.0) (ap is_none (k.3).0) (k.3).1;
+      }
 
 -- Where the commands go in order, nobody but the actor of the first one carries a row.
 pub alone-carries : (m : Running) → IsPhaseHeld m → (n : ℕ) → m.in_order ≡ true → m.first ≡ Some n → (block : ℕ) → free_by m.state.actors.items n block ≡ true

@@ -1,34 +1,166 @@
--- A step that goes on with no part, and by which no command begins, goes on with an open command.
-use Rattle.std.proofs.Common.{◌≡◌, ◌∙◌, ◌<◌, ℕ, Bool, true, false, ◌&&◌, Option, Some, None, is_none, is_some, length, get_or, refl, sym, ap}
-use Rattle.volap_cell.specs.{Steps.history_in, Values.{ActorValue, ErrandValue, actor_of}, declared.command.Command.Command as OpenCommand, declared.kind.Kind.Kind}
-use Rattle.volap_cell.proofs.Cells.States.{stands}
-use Rattle.seeded_run.specs.{AtWork.{errand_by, errand_of_one}, Commands.may_begin, Machine.{IsDueNow, IsPhaseKept, about_in, phase_of, world_of}, Rests.rest_of, Steps.{HasCommand, begins_by, begins_of_one, is_for_part, is_for_part_by}, Works.{command_by, command_of_one}, declared.machine.Running.Running}
-use Rattle.seeded_run.proofs.{Holding.LeftAlone.apart, Phases.Turns.command-seen, Ready.StepsReady.first-due}
+-- What is due for an actor whose turn it is can be made in the state that it is in.
+use Rattle.std.proofs.{Common.{◌≡◌, ◌≢◌, ◌∙◌, ◌<◌, inl, inr, ℕ, true, List, Option, Some, None, length, refl, sym, ap, subst}, lemmas.Bool.cases_lt}
+use Rattle.std.specs.Option.{option_map_or}
+use Rattle.core_due.specs.{Parts.due_kind, Ready.IsStateOf, Wants.{is_block_free, is_drained, wanted}, WorkLaws.IsAtWork, Works.{work_due, work_due_kind}, WorksReady.{AreBytes, IsWorkReady}, declared.parts.PartDue.PartDue, declared.works.WorkDue.WorkDue}
+use Rattle.core_due.specs.declared.works.WorkDue.TheVariants as work_is_due
+use Rattle.core_steps.specs.Steps.{IsSound}
+use Rattle.core_steps.specs.declared.books.BookStep.TheVariants as book
+use Rattle.core_steps.specs.declared.jobs.JobStep.TheVariants as job
+use Rattle.script_form.specs.declared.script.Command.{Command}
+use Rattle.volap_cell.specs.{Errands.taken_of, Ghost.Ghost, Invariant.InvWith, Setting.{Setting, actor_count}, Sights.IsIdle, Steps.history_in, Values.ErrandValue, View.view, World.World, declared.command.Command.Command as OpenCommand, declared.command.Work.Work, declared.kind.Kind.Kind, declared.kind.Kind.TheVariants.TakePart}
+use Rattle.seeded_run.specs.{Drives.{MayEndInstead, MayGiveWay, MayGoOn, MayShow, MayTake}, Due.is_alone, Instead.StandsFor, Machine.{IsDueNow, IsDueStep, IsPhaseKept, about_in, phase_of, world_of}, Rests.{PhaseRun, rest_of}, Steps.is_for_part, Told.is_of_part, declared.machine.Running.Running}
+use Rattle.seeded_run.specs.declared.turn.DueStep.TheVariants.{AtPart, AtWork, Takes}
+use Rattle.seeded_run.proofs.{Due.DueSteps.{at-part, at-take, at-work, kind-of}, Holding.LeftAlone.{alone-parts, both-parts}, Instead.made-as-due, PagesMayShow.may-show, PartsMayGoOn.{may-give-back, may-go-on, may-take, sound}, Phases.Turns.meets-it, States.state-of, WorksMayGoOn.may-go-on-with}
 
--- an actor's part, as it stands in the vector
-errand-seen : (m : Running) → IsPhaseKept m → (n : ℕ) → n < length m.state.actors.items → errand_by m.state.actors.items n ≡ ((world_of m).actors n).errand
-errand-seen m kept n within =
-    let k = stands (get_or m.state.actors.items n None) (λ x. actor_of x ≡ (world_of m).actors n) (kept.core.is.actor n within) in
-    ap errand_of_one k.1 ∙ ap (λ (a : ActorValue). a.errand) k.2
+-- Everyone else.
 
--- where a step goes on with a part, that is its actor's
-pub part-seen : (m : Running) → IsPhaseKept m → (n : ℕ) (k : Kind) → n < length m.state.actors.items → is_for_part_by m.state.actors.items n k ≡ is_for_part ((world_of m).actors n).errand k
-part-seen m kept n k within = ap (λ (o : Option ErrandValue). is_for_part o k) (errand-seen m kept n within)
+untaken : (o : Option ErrandValue) → taken_of o ≡ None → o ≡ None
+untaken None e = refl
+untaken (Some x) e = cc
 
-pub going-command : (m : Running) → IsPhaseKept m → (n : ℕ) (k : Kind) → IsDueNow m n k → n < length m.state.actors.items → begins_by m.state.actors.items n k ≡ false → is_for_part_by m.state.actors.items n k ≡ false
-    → HasCommand m.state.actors.items n
-going-command m kept n k due within goes other = by (command_by m.state.actors.items n) refl
-  where
-    no-begin : (b : Bool) → (b && may_begin k) ≡ false → b ≡ true → may_begin k ≡ false
-    no-begin true e is = e
-    no-begin false e is = cc
+-- beside an actor that is alone everyone is idle
+alone-idle : (s : Setting) (w : World) (g : Ghost) → InvWith s (view s w) g → (rest : ℕ → List Command) (n : ℕ) → is_alone s w rest n ≡ true → (a : ℕ) → a ≢ n → IsIdle (w.actors a)
+alone-idle s w g i rest n alone a differs = elim (cases_lt a (actor_count s)) [
+  | inl low ↦ (alone-parts s w rest n a alone low differs).0
+  | inr past ↦
+      let k = i.numbering.nobody a past in
+      record { command = k.2; errand = untaken (w.actors a).errand k.3; job = k.4; purse = k.1; counted = k.0 }
+]
 
-    by : (o : Option OpenCommand) → command_by m.state.actors.items n ≡ o → HasCommand m.state.actors.items n
-    by (Some c) is = ap is_some is
-    by None is =
-        let a = stands (get_or m.state.actors.items n None) (λ x. actor_of x ≡ (world_of m).actors n) (kept.core.is.actor n within) in
-        let none : is_none (actor_of a.0).command ≡ true = ap is_none (sym (ap command_of_one a.1) ∙ is) in
-        let never : may_begin k ≡ false = no-begin (is_none (actor_of a.0).command) (sym (ap (λ o. begins_of_one o k) a.1) ∙ goes) none in
-        let of_none = sym (command-seen m.state.cells.items m.state.actors.items (world_of m) n kept.core.is within) ∙ is in
-        let part = first-due (about_in m) (world_of m) (rest_of (phase_of m) (history_in (world_of m))) n k due.due_is of_none never in
-        apart (is_for_part_by m.state.actors.items n k) (part-seen m kept n k within ∙ part) other
+-- Kinds.
+
+-- a step of a command goes on with no part, but where one is taken: and then in its place nothing else is made
+of-part-so : (due : WorkDue) (k : Kind) → StandsFor (work_due_kind due) k → is_for_part None (work_due_kind due) ≡ true → is_of_part k ≡ true
+of-part-so (work_is_due.Takes desk) k stands is = ap is_of_part (made-as-due TakePart k refl stands)
+of-part-so (work_is_due.Books (book.BeginInsert image at measures)) k stands is = cc
+of-part-so (work_is_due.Books (book.BeginQuery desk image filter)) k stands is = cc
+of-part-so (work_is_due.Books (book.Route desk image)) k stands is = cc
+of-part-so (work_is_due.Books (book.Ack desk image)) k stands is = cc
+of-part-so (work_is_due.Books (book.Answer desk)) k stands is = cc
+of-part-so (work_is_due.Books (book.Sync image)) k stands is = cc
+of-part-so (work_is_due.Books (book.FailUnrouted image)) k stands is = cc
+of-part-so (work_is_due.Books (book.FailRouted desk image)) k stands is = cc
+of-part-so (work_is_due.Books (book.FailQuery desk)) k stands is = cc
+of-part-so (work_is_due.Jobs (job.ReadLoad map gate workers)) k stands is = cc
+of-part-so (work_is_due.Jobs (job.Freeze map gate)) k stands is = cc
+of-part-so (work_is_due.Jobs (job.Drained gate)) k stands is = cc
+of-part-so (work_is_due.Jobs (job.CollectBlock block)) k stands is = cc
+of-part-so (work_is_due.Jobs (job.CollectRow gate)) k stands is = cc
+of-part-so (work_is_due.Jobs (job.BuildTrees gate)) k stands is = cc
+of-part-so (work_is_due.Jobs (job.BuildBlock cell)) k stands is = cc
+of-part-so (work_is_due.Jobs (job.FinishSplit map gate left right)) k stands is = cc
+of-part-so (work_is_due.Jobs (job.FinishMove from to gate new)) k stands is = cc
+of-part-so (work_is_due.Jobs (job.FinishHere map gate new)) k stands is = cc
+of-part-so (work_is_due.Jobs job.Postpone) k stands is = cc
+of-part-so (work_is_due.Splits map gate) k stands is = cc
+of-part-so (work_is_due.Ends how) k stands is = cc
+of-part-so work_is_due.Leaves k stands is = cc
+of-part-so (work_is_due.Shows subject) k stands is = cc
+
+-- The state.
+
+state-now : (m : Running) → IsPhaseKept m → IsStateOf m.h.now m.with m.state (about_in m) (world_of m)
+state-now m kept = state-of m.h.now m.with m.state (about_in m) (world_of m) kept.core
+
+pub sound-now : (m : Running) → IsPhaseKept m → IsSound m.h.now m.state
+sound-now m kept = sound m.h.now m.with m.state (about_in m) (world_of m) (state-now m kept)
+
+module _ (m : Running) (kept : IsPhaseKept m) (n : ℕ) where
+  abbrev s : Setting
+  s = about_in m
+
+  abbrev w : World
+  w = world_of m
+
+  abbrev p : PhaseRun
+  p = phase_of m
+
+  abbrev rest : ℕ → List Command
+  rest = rest_of (phase_of m) (history_in (world_of m))
+
+  state : IsStateOf m.h.now m.with m.state (about_in m) (world_of m)
+  state = state-now m kept
+
+  -- Parts.
+
+  -- the kind that is due
+  pub part-now : (due : PartDue) → IsDueStep m n (AtPart due) → IsDueNow m n (due_kind due)
+  part-now due is =
+      let k = kind-of m.in_order s p w n (AtPart due) kept.core.inv is.is in
+      subst (IsDueNow m n) k.3 (record { due_is = k.1; can = k.2 })
+
+  abbrev MayBeMade : PartDue → Type 0
+  MayBeMade due = MayGoOn m.h.now m.state n due × MayEndInstead m.h.now m.with m.state n due
+
+  pub part-goes : (due : PartDue) → IsDueStep m n (AtPart due) → MayGoOn m.h.now m.state n due × MayEndInstead m.h.now m.with m.state n due
+  part-goes due is =
+      let k = kind-of m.in_order s p w n (AtPart due) kept.core.inv is.is in
+      elim (at-part s w rest n due k.4) [
+        | inl here ↦ may-go-on m.h.now m.with m.state s w state n here.0 due here.1 (meets-it m kept n (due_kind due) (part-now due is))
+        | inr spares ↦ subst MayBeMade (sym spares.1) (may-give-back m.h.now m.with m.state s w n state spares.0)
+      ]
+
+  -- Commands.
+
+  -- the kind that is due, the command, and that this is due for it
+  pub record IsDueWork (due : WorkDue) : Type 0 where
+    pub now_due : IsDueNow m n (work_due_kind due)
+    pub of : ℕ
+    pub work : Work
+    pub at : IsAtWork (world_of m) n of work
+    pub due_is : work_due (about_in m) (world_of m) (history_in (world_of m)) (is_alone (about_in m) (world_of m) (rest_of (phase_of m) (history_in (world_of m))) n) ((world_of m).actors n) of work ≡ Some due
+
+  pub work-now : (due : WorkDue) → IsDueStep m n (AtWork due) → IsDueWork due
+  work-now due is =
+      let k = kind-of m.in_order s p w n (AtWork due) kept.core.inv is.is in
+      let now : IsDueNow m n (work_due_kind due) = subst (IsDueNow m n) k.3 (record { due_is = k.1; can = k.2 }) in
+      let x = at-work s w rest n due k.4 in
+      record {
+        now_due = now;
+        of = x.0;
+        work = x.1;
+        at = record {
+          command = x.2;
+          free = x.3;
+          waits = (both-parts (option_map_or (is_block_free s w n) (wanted s w (w.actors n) (work_due_kind due)) true) (is_drained w (w.actors n).job) (meets-it m kept n (work_due_kind due) now)).1;
+        };
+        due_is = x.4;
+      }
+
+  -- its numbers are bytes
+  work-bytes : (due : WorkDue) (is : IsDueStep m n (AtWork due)) → AreBytes (about_in m).servers (work-now due is).work
+  work-bytes due is = (let d = work-now due is in is.bytes (record { of = d.of; work = d.work }) d.at.command)
+
+  pub work-goes : (due : WorkDue) → IsDueStep m n (AtWork due) → IsWorkReady m.h.now m.state n due × MayGiveWay m.h.now m.state n due
+  work-goes due is =
+      let d = work-now due is in
+      may-go-on-with m.h.now m.with m.state s w n d.of d.work (is_alone s w rest n) due state d.at (work-bytes due is) d.due_is
+
+  pub page-goes : (due : WorkDue) → IsDueStep m n (AtWork due) → MayShow m.h.now m.with m.state n due
+  page-goes due is =
+      let d = work-now due is in
+      may-show m.h.now m.with m.state s w n d.of d.work (is_alone s w rest n) due state d.at (work-bytes due is)
+      (λ alone a differs. alone-idle s w kept.core.inv.ghost_of kept.core.inv.holds rest n alone a differs) d.due_is
+
+  -- the actor has a command, and is at no part
+  pub has-command : (due : WorkDue) → IsDueStep m n (AtWork due) → ((world_of m).actors n).command ≢ None
+  has-command due is none = (let d = work-now due is in some-none (sym d.at.command ∙ none))
+    where
+      some-none : {c : OpenCommand} → ◌≡◌ {A = Option OpenCommand} (Some c) None → ⊥
+      some-none e = cc
+
+  pub work-parts : (due : WorkDue) → IsDueStep m n (AtWork due) → (k : Kind) → StandsFor (work_due_kind due) k → is_for_part ((world_of m).actors n).errand (work_due_kind due) ≡ true → is_of_part k ≡ true
+  work-parts due is k stands part = of-part-so due k stands (ap (λ (o : Option ErrandValue). is_for_part o (work_due_kind due)) (sym (work-now due is).at.free) ∙ part)
+
+  -- Hands.
+
+  pub hand-now : (worker : ℕ) → IsDueStep m n (Takes worker) → IsDueNow m n TakePart
+  hand-now worker is =
+      let k = kind-of m.in_order s p w n (Takes worker) kept.core.inv is.is in
+      subst (IsDueNow m n) (k.3).1 (record { due_is = k.1; can = k.2 })
+
+  pub hand-goes : n < length m.state.actors.items → (worker : ℕ) → IsDueStep m n (Takes worker) → MayTake m.h.now m.with m.state n worker
+  hand-goes within worker is =
+      let k = kind-of m.in_order s p w n (Takes worker) kept.core.inv is.is in
+      let x = at-take s w rest n worker k.4 in
+      may-take m.h.now m.with m.state s w n state (subst (λ c. n < c) kept.core.count within) worker x.0 x.1 x.4

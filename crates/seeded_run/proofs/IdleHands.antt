@@ -1,14 +1,17 @@
 -- A hand that has nothing to do takes a part that waits for its worker, if one does.
-use Rattle.std.proofs.Common.{◌≡◌, ◌≢◌, ◌∙◌, ◌<◌, ◌&&◌, ℕ, inl, inr, Bool, true, false, cond, not, List, [], Option, Some, None, is_none, get_or, length, option_map, refl, sym, ap, subst}
+use Rattle.std.proofs.Common.{◌≡◌, ◌≢◌, ◌∙◌, ◌<◌, ◌&&◌, ℕ, inl, inr, Bool, true, false, cond, not, List, [], Option, Some, None, IfSome, is_none, get_or, length, option_map, refl, sym, ap, subst}
 use Rattle.std.specs.{Option.option_map_or, Prelude.option_and_then}
-use mathlib.Core.Path.{fun_ext}
 use Rattle.dim_hierarchy.specs.Dimension.{Dimension}
 use Rattle.row_ledger.specs.declared.settings.Use.{Use}
 use Rattle.script_form.specs.declared.script.Command.{Command}
-use Rattle.volap_cell.specs.{Cells.CellValue, Errands.way_of, Setting.Setting, State.IsWorldOf, Steps.history_in, Values.{ActorValue, ErrandValue, JobValue, actor_of}, World.World, declared.actor.Actor.Actor, declared.cell.Cell.Cell, declared.command.Command.Command as OpenCommand, declared.kind.Kind.Kind, declared.kind.Kind.TheVariants.{Refill, TakePart}, declared.role.Role.Role}
+use Rattle.volap_cell.specs.{Errands.way_of, Setting.Setting, State.IsWorldOf, Steps.history_in, Values.{ActorValue, ErrandValue, JobValue, actor_of}, World.World, declared.actor.Actor.Actor, declared.cell.Cell.Cell, declared.command.Command.Command as OpenCommand, declared.kind.Kind.Kind, declared.kind.Kind.TheVariants.{Refill, TakePart}, declared.role.Role.Role}
 use Rattle.volap_cell.proofs.Cells.States.{same-actor, stands}
-use Rattle.seeded_run.specs.{Can.{is_block_free, is_carried_at, is_drained, meets, wanted_of}, Core.IsCore, Due.{actor_kind, command_kind, free_kind, hand_kind, is_alone, is_empty}, DueSteps.{due_step, kind_if, step_if_free, step_of}, Hands.{AreFreeHands, IsFreeHand, IsFreeHandAt}, Look.{cells_only, setting_by, setting_for, world_by}, Machine.{IsPhaseHeld, IsPhaseKept, KnowsHands, KnowsOtherHands, about_in, phase_of, step_in, world_of}, Rests.{PhaseRun, rest_of}, Survey.{IsSurvey, is_awaited}, Takes.carries_at, declared.due_step.DueStep.TheVariants.GoesOn, declared.hands.FreeHands.FreeHands, declared.machine.Running.Running, declared.survey.Survey.Survey}
-use Rattle.seeded_run.proofs.{Due.DueSteps.in-turn, Holding.LeftAlone.{is-idle, same-or-not}, Seen.cell-seen}
+use Rattle.core_due.specs.{Due.{hand_kind, is_empty}, Look.{setting_by, world_by}, Wants.{is_block_free, is_carried_at, is_drained, meets, wanted_of}}
+use Rattle.core_due.specs.declared.parts.PartDue.TheVariants.{Tree}
+use Rattle.core_steps.specs.declared.trees.TreeStep.TheVariants.{GiveBack}
+use Rattle.seeded_run.specs.{Core.IsCore, Due.{actor_kind, command_kind, free_kind, is_alone}, DueSteps.{KnowsBytes, actor_step, command_step, due_step, free_step, step_due, step_if_free, step_where}, Hands.{AreFreeHands, IsFreeHand, IsFreeHandAt}, Machine.{IsDueStep, IsPhaseHeld, IsPhaseKept, KnowsHands, KnowsOtherHands, about_in, phase_of, step_in, world_of}, Rests.{PhaseRun, rest_of}, Survey.{IsSurvey, is_awaited}, Takes.carries_at, declared.hands.FreeHands.FreeHands, declared.machine.Running.Running, declared.survey.Survey.Survey, declared.turn.DueStep.DueStep}
+use Rattle.seeded_run.specs.declared.turn.DueStep.TheVariants.{AtPart, Takes}
+use Rattle.seeded_run.proofs.{Due.DueSteps.in-turn, Holding.LeftAlone.{is-idle, same-or-not}, Seen.core-seen}
 
 -- In the vectors and in the state that they are.
 
@@ -59,45 +62,53 @@ hands-noted m n hands place kept knows read own others a worker low told = elim 
 -- what is due for a hand is seen
 pub hand-seen : (h : List Dimension) (with : Use) (cells : List (Option Cell)) (actors : List (Option Actor)) (s : Setting) (w : World) → IsCore h with cells actors s w → (worker : ℕ)
     → hand_kind s w worker ≡ hand_kind (setting_by [] with) (world_by cells) worker
-hand-seen h with cells actors s w core worker =
-    ap (λ (f : ℕ → CellValue). hand_kind s (cells_only f) worker) (fun_ext (cell-seen cells actors w core.is))
-    ∙ ap (λ (k : ℕ). hand_kind (setting_for [] k) (world_by cells) worker) core.servers
+hand-seen h with cells actors s w core worker = core-seen h with cells actors s w core (λ t v. hand_kind t v worker)
 
 module _ (s : Setting) (w : World) (n worker : ℕ) (free : IsFreeHand (w.actors n) worker) where
-  abbrev a : ActorValue
-  a = w.actors n
-
-  kind-is : (alone : Bool) (rest : List Command) → actor_kind s w alone rest a a.errand ≡ hand_kind s w worker
-  kind-is alone rest =
-      let idle = is-idle a free.idle in
-      ap (λ (e : Option ErrandValue). actor_kind s w alone rest a e) idle.errand
-      ∙ ap (λ b. cond b (Some Refill) (command_kind s w alone rest a a.command)) (none-left a.purse idle.purse)
-      ∙ ap (λ (o : Option OpenCommand). command_kind s w alone rest a o) idle.command
-      ∙ ap (λ (r : Role). free_kind s w alone rest r) free.role
+  none-left : (is_none (w.actors n).job && not (is_empty (w.actors n).purse)) ≡ false
+  none-left = by (w.actors n).purse (is-idle (w.actors n) free.idle).purse
     where
       and-none : (b : Bool) → (b && false) ≡ false
       and-none true = refl
       and-none false = refl
 
-      none-left : {A : Type 0} (xs : List A) → xs ≡ [] → (is_none a.job && not (is_empty xs)) ≡ false
-      none-left xs is = ap (λ ys. is_none a.job && not (is_empty ys)) is ∙ and-none (is_none a.job)
+      by : {A : Type 0} (xs : List A) → xs ≡ [] → (is_none (w.actors n).job && not (is_empty xs)) ≡ false
+      by xs is = ap (λ ys. is_none (w.actors n).job && not (is_empty ys)) is ∙ and-none (is_none (w.actors n).job)
+
+  module _ (alone : Bool) (rest : List Command) where
+    kind-is : actor_kind s w alone rest (w.actors n) (w.actors n).errand ≡ hand_kind s w worker
+    kind-is =
+        let idle = is-idle (w.actors n) free.idle in
+        ap (λ (e : Option ErrandValue). actor_kind s w alone rest (w.actors n) e) idle.errand
+        ∙ ap (λ b. cond b (Some Refill) (command_kind s w alone rest (w.actors n) (w.actors n).command)) none-left
+        ∙ ap (λ (o : Option OpenCommand). command_kind s w alone rest (w.actors n) o) idle.command
+        ∙ ap (λ (r : Role). free_kind s w alone rest r) free.role
+
+    step-is : actor_step s w alone rest (w.actors n) (w.actors n).errand ≡ option_map (λ k. Takes worker) (hand_kind s w worker)
+    step-is =
+        let idle = is-idle (w.actors n) free.idle in
+        ap (λ (e : Option ErrandValue). actor_step s w alone rest (w.actors n) e) idle.errand
+        ∙ ap (λ b. cond b (Some (AtPart (Tree GiveBack))) (command_step s w alone rest (w.actors n) (w.actors n).command)) none-left
+        ∙ ap (λ (o : Option OpenCommand). command_step s w alone rest (w.actors n) o) idle.command
+        ∙ ap (λ (r : Role). free_step s w alone rest r) free.role
 
   -- it waits for nothing
   meets-it : (k : Kind) → meets s w n k ≡ true
   meets-it k =
-      let idle = is-idle a free.idle in
-      ap (λ (e : Option ErrandValue). option_map_or (is_block_free s w n) (option_and_then (λ (x : ErrandValue). wanted_of s w x k) e) true && is_drained w a.job) idle.errand
+      let idle = is-idle (w.actors n) free.idle in
+      ap (λ (e : Option ErrandValue). option_map_or (is_block_free s w n) (option_and_then (λ (x : ErrandValue). wanted_of s w x k) e) true && is_drained w (w.actors n).job) idle.errand
       ∙ ap (λ (j : Option JobValue). true && is_drained w j) idle.job
 
-  takes : (b : Bool) → option_map (step_of a) (kind_if (meets s w n) (cond b (Some TakePart) None)) ≡ cond b (Some (GoesOn TakePart)) None
-  takes true = ap (λ c. option_map (step_of a) (cond c (Some TakePart) None)) (meets-it TakePart)
+  takes : (b : Bool) → step_where (option_map_or (meets s w n) (cond b (Some TakePart) None) false) (option_map (λ k. Takes worker) (cond b (Some TakePart) None)) ≡ cond b (Some (Takes worker)) None
+  takes true = ap (λ c. step_where c (Some (Takes worker))) (meets-it TakePart)
   takes false = refl
 
-  pub hand-takes : (p : PhaseRun) (b : Bool) → hand_kind s w worker ≡ cond b (Some TakePart) None → due_step false s p w n ≡ cond b (Some (GoesOn TakePart)) None
+  pub hand-takes : (p : PhaseRun) (b : Bool) → hand_kind s w worker ≡ cond b (Some TakePart) None → due_step false s p w n ≡ cond b (Some (Takes worker)) None
   hand-takes p b is =
       let rest = rest_of p (history_in w) in
       in-turn false true s p w n refl
-      ∙ ap (λ (o : Option Kind). option_map (step_of a) (kind_if (meets s w n) o)) (kind-is (is_alone s w rest n) (rest n) ∙ is)
+      ∙ ap (λ (o : Option Kind). step_where (option_map_or (meets s w n) o false) (step_due s p w n)) (kind-is (is_alone s w rest n) (rest n) ∙ is)
+      ∙ ap (λ (o : Option DueStep). step_where (option_map_or (meets s w n) (cond b (Some TakePart) None) false) o) (step-is (is_alone s w rest n) (rest n) ∙ ap (option_map (λ k. Takes worker)) is)
       ∙ takes b
 
 -- where the commands go in any order, it is everybody's turn
@@ -107,11 +118,16 @@ any-order m n any = ap (λ b. due_step b (about_in m) (phase_of m) (world_of m) 
 -- by a survey
 pub hand-step : (m : Running) (n worker : ℕ) (survey : Survey) → IsPhaseHeld m → m.in_order ≡ false → n < length m.state.actors.items → get_or m.hands.workers n None ≡ Some worker
     → IsSurvey m.with m.state.cells.items m.state.actors.items survey → worker < m.with.workers
-    → step_in m n ≡ cond (get_or survey.awaited worker false) (Some (GoesOn TakePart)) None
+    → step_in m n ≡ cond (get_or survey.awaited worker false) (Some (Takes worker)) None
 hand-step m n worker survey held any low told tells within =
     let s = about_in m in
     let w = world_of m in
     let awaited = is_awaited m.with m.state.cells.items worker in
     ap (λ b. due_step b s (phase_of m) w n) any
     ∙ hand-takes s w n worker (held.hands n worker low told) (phase_of m) awaited (hand-seen m.h.now m.with m.state.cells.items m.state.actors.items s w held.kept.core worker)
-    ∙ ap (λ b. cond b (Some (GoesOn TakePart)) None) (sym (tells.awaited worker within))
+    ∙ ap (λ b. cond b (Some (Takes worker)) None) (sym (tells.awaited worker within))
+
+-- What is told is what the actor does.
+pub step-found : (m : Running) (n : ℕ) (told : Option DueStep) → step_in m n ≡ told → IfSome told (KnowsBytes m.with.servers ((world_of m).actors n)) → IfSome told (IsDueStep m n)
+step-found m n None is bytes = tt
+step-found m n (Some step) is bytes = record { is = is; bytes = bytes }

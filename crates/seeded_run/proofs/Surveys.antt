@@ -3,7 +3,8 @@ use Rattle.std.proofs.{Common.{◌≡◌, ◌∙◌, ℕ, zero, suc, ◌+◌, �
 use Rattle.std.specs.{List.{list_any, position, position_or_len}, Option.option_map_or, Prelude.{◌==◌, ◌&&◌, ◌||◌}}
 use Rattle.query_router.specs.{Desk.{is_waiting, waits_for}, declared.part.Part.Part}
 use Rattle.volap_cell.specs.declared.actor.Actor.{Actor}
-use Rattle.seeded_run.specs.{Due.any_below, Survey.{AllAwaited, MarksCarried, mark_count, mark_of, worker_count}, Takes.{carries_at, free_by}}
+use Rattle.core_due.specs.Due.{any_below}
+use Rattle.seeded_run.specs.{Survey.{AllAwaited, MarksCarried, mark_count, mark_of, worker_count}, Takes.{carries_at, free_by}}
 use Rattle.seeded_run.proofs.{Cursors.Firstly.below-or-at, Due.DueSteps.no-both, Holding.LeftAlone.{apart, or-true, same-or-not}, Holding.Others.{any-at, both-fail}, Phases.Movers.all-from}
 
 neither : (a b : Bool) → (a || b) ≡ false → (a ≡ false) × (b ≡ false)

@@ -1,81 +1,22 @@
 -- What an actor does on its turn is told by what one thread sees that holds all cells and actors.
-use Rattle.std.proofs.{Common.{◌≡◌, ◌∙◌, ℕ, ◌<◌, Bool, true, false, List, [], length, get_or, Option, Some, None, refl, sym, ap, subst, not, arith, ◌+◌, cond}, lemmas.Bool.eqb-true}
-use Rattle.std.specs.{Option.option_map_or, Prelude.{◌==◌, ◌&&◌, ◌||◌, if◌then◌else◌, is_none, option_and_then, option_map}}
+use Rattle.std.proofs.{Common.{◌≡◌, ◌∙◌, ℕ, ◌<◌, Bool, true, false, List, [], length, get_or, Option, Some, None, IfSome, refl, sym, ap, subst, not, arith, ◌+◌}, lemmas.Bool.eqb-true}
+use Rattle.std.specs.{Option.option_map_or, Prelude.{◌==◌, ◌&&◌, ◌||◌, if◌then◌else◌, is_none, option_and_then}}
 use mathlib.Core.Path.{fun_ext}
 use Rattle.core_tree.proofs.Rows.Carriers.{Carries, carries}
 use Rattle.dc_node.specs.Block.{IsBodyOf}
-use Rattle.dim_hierarchy.specs.{Dimension.Dimension, Rows.IsRowOf, declared.row.Row.Row}
-use Rattle.mapping_table.specs.declared.place.Where.{Where}
-use Rattle.mapping_table.specs.declared.place.Where.TheVariants as where_is
+use Rattle.dim_hierarchy.specs.{Dimension.Dimension, Rows.IsRowOf}
 use Rattle.row_ledger.specs.declared.settings.Use.{Use}
 use Rattle.script_form.specs.declared.script.Command.{Command}
 use Rattle.script_form.specs.declared.script.Command.TheVariants as script
 use Rattle.tree_shape.specs.Laws.{BlockLaw}
 use Rattle.volap_cell.proofs.{Actors.row-at, Cells.States.same-actor}
-use Rattle.volap_cell.specs.{Cells.{CellValue, block_in, desk_in}, Errands.{place_of, row_way, way_of}, Growing.table_of, Setting.{Setting, actor_count, desk_cell}, State.Has, Stocking.cells_at, TreeKinds.HasRow, Values.{ActorValue, ErrandValue, TaskValue, OfRow, Unread, Read, actor_of}, View.view, World.World, declared.actor.Actor.Actor, declared.cell.Cell.Cell, declared.errand.RowErrand.RowErrand, declared.errand.Way.Way, declared.kind.Kind.Kind}
+use Rattle.volap_cell.specs.{Cells.{CellValue, block_in, desk_in}, Errands.{place_of, row_way, way_of}, Growing.table_of, Setting.{Setting, actor_count, desk_cell}, State.Has, Stocking.cells_at, TreeKinds.HasRow, Values.{ActorValue, ErrandValue, OfRow, actor_of}, View.view, World.World, declared.actor.Actor.Actor, declared.cell.Cell.Cell, declared.errand.RowErrand.RowErrand, declared.kind.Kind.Kind}
 use Rattle.volap_cell.specs.declared.errand.Way.TheVariants as way
-use Rattle.volap_cell.specs.declared.kind.Kind.TheVariants as kind
 use Rattle.volap_cell.specs.declared.role.Role.TheVariants as role
-use Rattle.seeded_run.proofs.{Due.DueSteps.if-out, Holding.Others.all-same, Looks.due-seen, Phases.Progress.session-within, Scripts.session-is, Seen.cell-seen}
-use Rattle.seeded_run.specs.{Can.{child_wanted, is_block_free, is_carried_at, is_drained, meets, root_at, wanted_down, wanted_of}, Core.IsCore, Due.{actor_kind, all_below, desk_of, due_by, is_empty_desk, led_to}, DueSteps.{kind_if, step_of}, Look.{IsTold, ahead, alone_by, cell_at, cells_only, setting_by, setting_for, world_by}, Takes.{AsksHere, CanPick, HasDeskFor, carries_at, free_by, is_free_by}, declared.due_step.DueStep.DueStep}
-
--- The block that is wanted.
-
-module _ (s : Setting) (w : World) where
-  root-seen : (led : Option Where) → root_at w led ≡ root_at (cells_only w.cells) led
-  root-seen None = refl
-  root-seen (Some (where_is.Gate gate)) = refl
-  root-seen (Some (where_is.Split plane left right)) = refl
-  root-seen (Some (where_is.Moved to)) = refl
-
-  child-seen : (h : List Dimension) (row : Row) (on : Way) → child_wanted h w row on ≡ child_wanted h (cells_only w.cells) row on
-  child-seen h row (way.Before height filled) = refl
-  child-seen h row (way.Carried gate block) = refl
-  child-seen h row (way.Put gate) = refl
-  child-seen h row way.Placed = refl
-
-  down-seen : (h : List Dimension) (task : TaskValue) → wanted_down h w task ≡ wanted_down h (cells_only w.cells) task
-  down-seen h (OfRow r) = child-seen h r.row r.way
-  down-seen h (Unread f) = refl
-  down-seen h (Read r) = refl
-
-  wanted-at : (e : ErrandValue) (k : Kind) → wanted_of s w e k ≡ wanted_of (setting_for s.hierarchy s.servers) (cells_only w.cells) e k
-  wanted-at e kind.GateRead = refl
-  wanted-at e kind.BlockVisit = refl
-  wanted-at e kind.EnterTree = root-seen (led_to s w e)
-  wanted-at e kind.EnterQueue = refl
-  wanted-at e kind.Down = down-seen s.hierarchy e.task
-  wanted-at e kind.PutInLeaf = refl
-  wanted-at e kind.LeaveTree = refl
-  wanted-at e kind.Refill = refl
-  wanted-at e kind.TakePart = refl
-  wanted-at e kind.LookUp = refl
-  wanted-at e kind.Forward = refl
-  wanted-at e kind.Expand = refl
-  wanted-at e kind.FinishPart = refl
-  wanted-at e kind.BeginInsert = refl
-  wanted-at e kind.Note = refl
-  wanted-at e kind.Route = refl
-  wanted-at e kind.Ack = refl
-  wanted-at e kind.BeginQuery = refl
-  wanted-at e kind.Answer = refl
-  wanted-at e kind.Sync = refl
-  wanted-at e kind.Freeze = refl
-  wanted-at e kind.Drained = refl
-  wanted-at e kind.Collect = refl
-  wanted-at e kind.BuildBlock = refl
-  wanted-at e kind.FinishSplit = refl
-  wanted-at e kind.FinishMove = refl
-  wanted-at e kind.Postpone = refl
-  wanted-at e kind.Reuse = refl
-
-wanted-seen : (h : List Dimension) (servers : ℕ) (s : Setting) (w : World) (cells : ℕ → CellValue) (e : ErrandValue) (k : Kind) → s.hierarchy ≡ h → s.servers ≡ servers → ((y : ℕ) → w.cells y ≡ cells y)
-    → wanted_of s w e k ≡ wanted_of (setting_for h servers) (cells_only cells) e k
-wanted-seen h servers s w cells e k same_h same_servers same =
-    wanted-at s w e k
-    ∙ ap (λ (g : List Dimension). wanted_of (setting_for g s.servers) (cells_only w.cells) e k) same_h
-    ∙ ap (λ n. wanted_of (setting_for h n) (cells_only w.cells) e k) same_servers
-    ∙ ap (λ (f : ℕ → CellValue). wanted_of (setting_for h servers) (cells_only f) e k) (fun_ext same)
+use Rattle.core_due.proofs.InStates.{cells-seen}
+use Rattle.core_due.specs.{Due.{all_below, desk_of, is_empty_desk}, Look.{cell_at, setting_by, world_by}, Wants.{is_block_free, is_carried_at, is_drained, meets, wanted_of}}
+use Rattle.seeded_run.proofs.{Due.DueSteps.no-both, Holding.Others.all-same, Looks.{due-seen, step-seen}, Phases.Progress.session-within, Scripts.session-is, Seen.{core-seen, wanted-told, world-seen}}
+use Rattle.seeded_run.specs.{Core.IsCore, Due.{actor_kind, due_by}, DueSteps.{KnowsBytes, actor_step, step_due_by, step_where}, Look.{IsTold, ahead, alone_by}, Takes.{AsksHere, CanPick, HasDeskFor, carries_at, free_by, is_free_by}, declared.turn.DueStep.DueStep}
 
 -- Who carries a row there.
 
@@ -91,6 +32,15 @@ free-seen s w actors n y count is =
 
 -- All of it.
 
+-- what no kind depends on is tested apart
+test-out : (o : Option Kind) (test : Kind → Bool) (d : Bool) → option_map_or (λ k. test k && d) o false ≡ (option_map_or test o false && d)
+test-out None test d = refl
+test-out (Some k) test d = refl
+
+and-so : (b d : Bool) → d ≡ true → (b && d) ≡ b
+and-so true d is = is
+and-so false d is = refl
+
 same-or : (o : Option ℕ) (f g : ℕ → Bool) → ((y : ℕ) → f y ≡ g y) → option_map_or f o true ≡ option_map_or g o true
 same-or None f g same = refl
 same-or (Some y) f g same = same y
@@ -100,12 +50,15 @@ module _ (h : List Dimension) (with : Use) (cells : List (Option Cell)) (actors 
   abbrev is_free_for : Kind → Bool
   is_free_for k = is_free_by h with cells actors n (actor_of a).errand k
 
+  cell-seen : (y : ℕ) → w.cells y ≡ cell_at cells y
+  cell-seen y = ap (λ (f : ℕ → CellValue). f y) (cells-seen cells actors w core.is)
+
   is-actor : w.actors n ≡ actor_of a
   is-actor = same-actor cells actors w n a core.is at
 
   wanted-by : (o : Option ErrandValue) (k : Kind) → option_and_then (λ e. wanted_of s w e k) o ≡ option_and_then (λ (e : ErrandValue). wanted_of (setting_by h with) (world_by cells) e k) o
   wanted-by None k = refl
-  wanted-by (Some e) k = wanted-seen h with.servers s w (cell_at cells) e k core.hierarchy core.servers (cell-seen cells actors w core.is)
+  wanted-by (Some e) k = wanted-told s w e k ∙ core-seen h with cells actors s w core (λ t v. wanted_of t v e k)
 
   meets-seen : (k : Kind) → meets s w n k ≡ (is_free_for k && is_drained (world_by cells) (actor_of a).job)
   meets-seen k =
@@ -114,28 +67,34 @@ module _ (h : List Dimension) (with : Use) (cells : List (Option Cell)) (actors 
       ∙ ap (λ b. b && is_drained w (actor_of a).job)
       (same-or (option_and_then (λ (e : ErrandValue). wanted_of (setting_by h with) (world_by cells) e k) (actor_of a).errand) (is_block_free s w n) (free_by actors n)
       (λ y. free-seen s w actors n y core.count core.is.actor))
-      ∙ ap (λ (f : ℕ → CellValue). is_free_for k && is_drained (cells_only f) (actor_of a).job) (fun_ext (cell-seen cells actors w core.is))
+      ∙ ap (λ (v : World). is_free_for k && is_drained v (actor_of a).job) (world-seen h with cells actors s w core)
 
   -- What it does.
   module _ (rest : ℕ → List Command) (next : Option Command) (left : ℕ) (told : IsTold s rest n next left) where
-    abbrev free_kind_by : Option Kind
-    free_kind_by = kind_if is_free_for (actor_kind (setting_by h with) (world_by cells) (alone_by actors n next left) (ahead next) (actor_of a) (actor_of a).errand)
+    abbrev kind_seen : Option Kind
+    kind_seen = actor_kind (setting_by h with) (world_by cells) (alone_by actors n next left) (ahead next) (actor_of a) (actor_of a).errand
 
-    kinds-seen : kind_if (meets s w n) (due_by s w rest n) ≡ cond (is_drained (world_by cells) (actor_of a).job) free_kind_by None
-    kinds-seen =
-        ap (λ (f : Kind → Bool). kind_if f (due_by s w rest n)) (fun_ext meets-seen)
-        ∙ ap (λ o. kind_if (λ k. is_free_for k && is_drained (world_by cells) (actor_of a).job) o) (due-seen h with cells actors s w n core low rest next left a told at)
-        ∙ if-out (actor_kind (setting_by h with) (world_by cells) (alone_by actors n next left) (ahead next) (actor_of a) (actor_of a).errand) is_free_for (is_drained (world_by cells) (actor_of a).job)
+    abbrev step_seen : Option DueStep
+    step_seen = actor_step (setting_by h with) (world_by cells) (alone_by actors n next left) (ahead next) (actor_of a) (actor_of a).errand
+
+    steps-seen : step_where (option_map_or (meets s w n) (due_by s w rest n) false) (step_due_by s w rest n)
+        ≡ step_where (option_map_or is_free_for kind_seen false && is_drained (world_by cells) (actor_of a).job) step_seen
+    steps-seen =
+        ap (λ (f : Kind → Bool). step_where (option_map_or f (due_by s w rest n) false) (step_due_by s w rest n)) (fun_ext meets-seen)
+        ∙ ap (λ o. step_where (option_map_or (λ k. is_free_for k && is_drained (world_by cells) (actor_of a).job) o false) (step_due_by s w rest n)) (due-seen h with cells actors s w n core low rest next left a told at)
+        ∙ ap (λ o. step_where (option_map_or (λ k. is_free_for k && is_drained (world_by cells) (actor_of a).job) kind_seen false) o) (step-seen h with cells actors s w n core low rest next left a told at)
+        ∙ ap (λ b. step_where b step_seen) (test-out kind_seen is_free_for (is_drained (world_by cells) (actor_of a).job))
 
     -- while inserts are in the tree that its job waits for, it does nothing
-    pub stays-so : is_drained (world_by cells) (actor_of a).job ≡ false → option_map (step_of (w.actors n)) (kind_if (meets s w n) (due_by s w rest n)) ≡ None
-    stays-so waits = ap (option_map (step_of (w.actors n))) (kinds-seen ∙ ap (λ b. cond b free_kind_by None) waits)
+    pub stays-so : is_drained (world_by cells) (actor_of a).job ≡ false → step_where (option_map_or (meets s w n) (due_by s w rest n) false) (step_due_by s w rest n) ≡ None
+    stays-so waits = steps-seen ∙ ap (λ b. step_where b step_seen) (no-both (option_map_or is_free_for kind_seen false) (is_drained (world_by cells) (actor_of a).job) waits)
 
-    pub steps-so : is_drained (world_by cells) (actor_of a).job ≡ true → (step : Option DueStep) → option_map (step_of (actor_of a)) free_kind_by ≡ step
-        → option_map (step_of (w.actors n)) (kind_if (meets s w n) (due_by s w rest n)) ≡ step
-    steps-so drained step is =
-        ap (option_map (step_of (w.actors n))) (kinds-seen ∙ ap (λ b. cond b free_kind_by None) drained)
-        ∙ ap (λ x. option_map (step_of x) free_kind_by) is-actor ∙ is
+    pub steps-so : is_drained (world_by cells) (actor_of a).job ≡ true → (step : Option DueStep) → step_where (option_map_or is_free_for kind_seen false) step_seen ≡ step
+        → step_where (option_map_or (meets s w n) (due_by s w rest n) false) (step_due_by s w rest n) ≡ step
+    steps-so drained step is = steps-seen ∙ ap (λ b. step_where b step_seen) (and-so (option_map_or is_free_for kind_seen false) (is_drained (world_by cells) (actor_of a).job) drained) ∙ is
+
+  pub bytes-so : (step : Option DueStep) → IfSome step (KnowsBytes with.servers (actor_of a)) → IfSome step (KnowsBytes with.servers (w.actors n))
+  bytes-so step = subst (λ (x : ActorValue). IfSome step (KnowsBytes with.servers x)) (sym is-actor)
 
   -- Its row, and the block at which it is carried, are of the dimensions.
   module _ (blocks : BlockLaw) (e : ErrandValue) (has_errand : (actor_of a).errand ≡ Some e) where
@@ -149,7 +108,7 @@ module _ (h : List Dimension) (with : Use) (cells : List (Option Cell)) (actors 
           (ap place_of carried)
 
       body-is : IsBodyOf h (block_in (cell_at cells block)).body
-      body-is = subst (λ (x : CellValue). IsBodyOf h (block_in x).body) (cell-seen cells actors w core.is block)
+      body-is = subst (λ (x : CellValue). IsBodyOf h (block_in x).body) (cell-seen block)
           (subst (λ (g : List Dimension). IsBodyOf g (block_in (w.cells block)).body) core.hierarchy
           (blocks (table_of s (view s w).row) (cells_at (view s w).blocks (view s w).trees gate) (core.inv.ghost_of.shape gate) block here.tree core.inv.holds.numbering.setting.hierarchy here.inside here.apart).body)
 
@@ -177,7 +136,7 @@ module _ (h : List Dimension) (with : Use) (cells : List (Option Cell)) (actors 
     empty-here : is_empty_desk (desk_of (setting_by [] with) (world_by cells) (role.Session server)) ≡ true
     empty-here =
         subst (λ m. is_none (desk_in (cell_at cells (3 + m + server))).op ≡ true) core.servers
-        (subst (λ (c : CellValue). is_none (desk_in c).op ≡ true) (cell-seen cells actors w core.is (desk_cell s server)) (by-op ((view s w).desks server).op refl))
+        (subst (λ (c : CellValue). is_none (desk_in c).op ≡ true) (cell-seen (desk_cell s server)) (by-op ((view s w).desks server).op refl))
 
   pub desk-empty : (next : Option Command) → AsksHere (Some a) next → a.command ≡ None → HasDeskFor (desk_of (setting_by [] with) (world_by cells) a.role) next
   desk-empty None asks none = tt

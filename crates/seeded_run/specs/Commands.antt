@@ -6,9 +6,10 @@ use Rattle.row_ledger.specs.{Classes.class_of, declared.class.Class.Class, decla
 use Rattle.script_form.specs.declared.script.Command.{Command}
 use Rattle.script_form.specs.declared.script.Command.TheVariants as script
 use Rattle.script_run.specs.{Places.session_of, Runs.{Begins, can_be_refused}}
-use Rattle.volap_cell.specs.{Setting.Setting, State.{Has, IsWorldOf}, Steps.history_in, Values.actor_of, World.World, declared.actor.Actor.Actor, declared.cell.Cell.Cell, declared.kind.Kind.Kind, declared.role.Role.TheVariants.Session}
+use Rattle.volap_cell.specs.{Setting.Setting, State.{Has, IsWorldOf}, Steps.history_in, Values.actor_of, World.World, declared.actor.Actor.Actor, declared.cell.Cell.Cell, declared.kind.Kind.Kind}
 use Rattle.volap_cell.specs.declared.kind.Kind.TheVariants as kind
-use Rattle.seeded_run.specs.{Can.meets, Core.IsCore, Due.{are_known, due_by}, Look.HasNames}
+use Rattle.core_due.specs.Wants.{meets}
+use Rattle.seeded_run.specs.{Core.IsCore, Due.{are_known, due_by}, Look.HasNames}
 
 -- a step of this kind is due for the actor, and it can be made, where this command is the next one of its stream
 pub record IsNextAt (s : Setting) (w : World) (n : ℕ) (c : Command) (k : Kind) : Type 0 where
@@ -29,10 +30,6 @@ pub record IsBegunBy (with : Use) (h : List Dimension) (c : Command) (before now
 
 abbrev pub GoesBy : Use → List Dimension → Command → (cells : List (Option Cell)) (actors : List (Option Actor)) (cells_now : List (Option Cell)) (actors_now : List (Option Actor)) → Type 0
 GoesBy with h c cells actors cells_now actors_now = (w now : World) → IsWorldOf cells actors w → IsWorldOf cells_now actors_now now → IsBegunBy with h c (history_in w) (history_in now)
-
--- the actor is there, and its server is this one
-abbrev pub IsSessionAt : List (Option Actor) → ℕ → ℕ → Type 0
-IsSessionAt actors n server = Has (get_or actors n None) (λ a. a.role ≡ Session server)
 
 -- Beginnings.
 

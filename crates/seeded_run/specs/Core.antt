@@ -1,10 +1,9 @@
--- A script's core as one thread holds it, as vectors of cells and actors; and what is due in it for an actor.
-use Rattle.std.specs.Prelude.{ℕ, ◌≡◌, true, List, length, Option, Some}
+-- A script's core as one thread holds it, as vectors of cells and actors.
+use Rattle.std.specs.Prelude.{ℕ, ◌≡◌, List, length, Option}
 use Rattle.dim_hierarchy.specs.Dimension.{Dimension}
 use Rattle.row_ledger.specs.declared.settings.Use.{Use}
-use Rattle.script_form.specs.declared.script.Command.{Command}
 use Rattle.volap_cell.specs.{Setting.{Setting, actor_count, cell_count}, State.{IsWorldOf, Stepped}, Steps.Inv, World.World, declared.actor.Actor.Actor, declared.cell.Cell.Cell, declared.kind.Kind.Kind}
-use Rattle.seeded_run.specs.{Can.meets, Due.due_by, Instead.StandsFor, Progress.AreScriptRoles}
+use Rattle.seeded_run.specs.{Instead.StandsFor, Progress.AreScriptRoles}
 
 -- the vectors are this state, of a core for these dimensions and settings and for a script's actors, which meets the invariant
 pub record IsCore (h : List Dimension) (with : Use) (cells : List (Option Cell)) (actors : List (Option Actor)) (s : Setting) (w : World) : Type 0 where
@@ -22,15 +21,6 @@ pub record HasCore (h : List Dimension) (with : Use) (cells : List (Option Cell)
   pub setting : Setting
   pub world : World
   pub is_core : IsCore h with cells actors setting world
-
--- a step of this kind is due for the actor, with some rests of the streams, and it can be made
-pub record IsDueAt (s : Setting) (w : World) (n : ℕ) (k : Kind) : Type 0 where
-  pub rest : ℕ → List Command
-  pub due_is : due_by s w rest n ≡ Some k
-  pub meets_it : meets s w n k ≡ true
-
-abbrev pub IsDue : (h : List Dimension) (with : Use) (cells : List (Option Cell)) (actors : List (Option Actor)) (n : ℕ) (k : Kind) → Type 0
-IsDue h with cells actors n k = (s : Setting) (w : World) → IsCore h with cells actors s w → IsDueAt s w n k
 
 -- the vectors after a step of the actor, where one of this kind was due, from what they were
 abbrev pub StepsOn : List Dimension → Kind → ℕ → List (Option Cell) → List (Option Actor) → List (Option Cell) → List (Option Actor) → Type 0

@@ -1,7 +1,8 @@
 -- Which hands have nothing to do.
 use Rattle.std.specs.Prelude.{ℕ, ◌≡◌, ◌<◌, true, List, Option, Some, None, get_or, length}
 use Rattle.volap_cell.specs.{Values.{ActorValue, actor_of}, declared.actor.Actor.Actor, declared.role.Role.TheVariants.Hand}
-use Rattle.seeded_run.specs.{Due.does_nothing, declared.hands.FreeHands.FreeHands}
+use Rattle.core_due.specs.Due.{does_nothing}
+use Rattle.seeded_run.specs.declared.hands.FreeHands.{FreeHands}
 
 -- a hand of the worker, which has nothing to do
 pub record IsFreeHand (a : ActorValue) (worker : ℕ) : Type 0 where

@@ -5,7 +5,8 @@ use Rattle.row_ledger.specs.declared.event.Event.{Event}
 use Rattle.script_run.specs.Places.{begins_in, begins_of}
 use Rattle.volap_cell.specs.{Cells.block_in, Setting.{Setting, actor_count}, Sights.IsIdle, Values.{ActorValue, ErrandValue, OfRow}, World.{World, MustKeep}, declared.errand.RowErrand.RowErrand, declared.errand.Way.TheVariants.Carried, declared.kind.Kind.Kind, declared.kind.Kind.TheVariants.{PutInLeaf, Down}, declared.role.Role.TheVariants.Hand}
 use Rattle.script_form.specs.declared.script.Command.{Command}
-use Rattle.seeded_run.specs.{Can.{can_in_order, is_block_free, wanted}, Due.{due_by, led_to}, Rests.{PhaseRun, rest_of, stream_of}}
+use Rattle.core_due.specs.{Due.led_to, Wants.{is_block_free, wanted}}
+use Rattle.seeded_run.specs.{Can.can_in_order, Due.due_by, Rests.{PhaseRun, rest_of, stream_of}}
 
 -- As a phase begins each session has its whole stream.
 abbrev pub WholeLaw : Type 0

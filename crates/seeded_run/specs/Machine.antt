@@ -1,11 +1,12 @@
 -- What holds between the turns of a phase, and what a turn is.
 use Rattle.std.specs.Prelude.{ℕ, ◌≡◌, ◌≢◌, ◌+◌, ◌≤◌, ◌<◌, Bool, true, false, nat_lt, count_by, List, [], Option, Some, None, length, get_or, slice_get}
-use Rattle.core_steps.specs.Ready.{Stays}
+use Rattle.core_steps.specs.Steps.{IsSame}
 use Rattle.script_form.specs.declared.script.Command.{Command}
 use Rattle.script_run.specs.Places.{session_of}
 use Rattle.tree_shape.specs.Shape.{Shape}
 use Rattle.volap_cell.specs.{Falls.left, Ghost.{Ghost, NotOfStock}, Setting.Setting, State.IsWorldOf, Steps.history_in, World.World, declared.kind.Kind.Kind}
-use Rattle.seeded_run.specs.{Can.can_step, Core.{HasCore, IsCore}, Due.{does_nothing, due}, DueSteps.due_step, Hands.{AreFreeHands, IsFreeHand}, Kept.{AreIdle, IsBetween}, Measure.{CoreHasLeft, limits_of}, Order.is_order, Phase.{ClosesLast, EndsBehindAny, IsKeptTurn, MayAllRun, NobodyCanStep, about, held, most_actors, phase_from, RunsTo, StopsAt, StopsBehindAny}, Ranks.{rank, commands_waiting, with_waiting}, Rests.{PhaseRun, first_open}, Running.{IsRunning, RunsBehind}, Steps.begins_by, Survey.IsSurvey, declared.due_step.DueStep.DueStep, declared.machine.Running.Running, declared.survey.Survey.Survey}
+use Rattle.core_due.specs.Due.{does_nothing}
+use Rattle.seeded_run.specs.{Can.can_step, Core.{HasCore, IsCore}, Due.due, DueSteps.{KnowsBytes, due_step}, Hands.{AreFreeHands, IsFreeHand}, Kept.{AreIdle, IsBetween}, Measure.{CoreHasLeft, limits_of}, Order.is_order, Phase.{ClosesLast, EndsBehindAny, IsKeptTurn, MayAllRun, NobodyCanStep, about, held, most_actors, phase_from, RunsTo, StopsAt, StopsBehindAny}, Ranks.{rank, commands_waiting, with_waiting}, Rests.{PhaseRun, first_open}, Running.{IsRunning, RunsBehind}, Steps.begins_by, Survey.IsSurvey, declared.turn.DueStep.DueStep, declared.machine.Running.Running, declared.survey.Survey.Survey}
 use Rattle.row_ledger.specs.declared.settings.Use.{Use}
 use Rattle.seeded_turns.specs.declared.schedule.Schedule.{Schedule}
 
@@ -99,9 +100,10 @@ pub record BeginsNow (m : Running) (n : ℕ) : Type 0 where
 abbrev pub step_in : Running → ℕ → Option DueStep
 step_in m n = due_step m.in_order (about_in m) (phase_of m) (world_of m) n
 
--- this is what it does
-abbrev pub IsDueStep : Running → ℕ → DueStep → Type 0
-IsDueStep m n step = step_in m n ≡ Some step
+-- this is what it does, and the numbers of its command are bytes
+pub record IsDueStep (m : Running) (n : ℕ) (step : DueStep) : Type 0 where
+  pub is : step_in m n ≡ Some step
+  pub bytes : KnowsBytes m.with.servers ((world_of m).actors n) step
 
 -- all but the state and the cursors stays
 pub record IsSamePhase (m now : Running) : Type 0 where
@@ -122,7 +124,7 @@ pub record TakesTurn (m : Running) (n : ℕ) (now : Running) : Type 0 where
 -- where no memory was found: the same state, whatever rooms its vectors have
 pub record RestsAsIs (m now : Running) : Type 0 where
   pub same : IsSamePhase m now
-  pub state : Stays m.state.cells.items m.state.actors.items now.state.cells.items now.state.actors.items
+  pub state : IsSame m.state now.state
   pub about : about_in now ≡ about_in m
   pub world : world_of now ≡ world_of m
 

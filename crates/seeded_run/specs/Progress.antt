@@ -3,7 +3,8 @@ use Rattle.std.specs.Prelude.{ℕ, ◌≡◌, ◌≢◌, ◌+◌, ◌<◌, ◌&&
 use Rattle.script_form.specs.{declared.script.Command.Command, declared.script.Command.TheVariants.Query, declared.script.Question.Question}
 use Rattle.script_run.specs.{Phases.closes, Places.session_of}
 use Rattle.volap_cell.specs.{Commands.once_shown, Ghost.Ghost, Invariant.InvWith, Setting.{Setting, actor_count}, Steps.history_in, View.view, World.World, declared.command.Command.Command as OpenCommand, declared.kind.Kind.Kind, declared.role.Role.Role, declared.role.Role.TheVariants.{Admin, Hand, Puller, Session}}
-use Rattle.seeded_run.specs.{Can.{able_in, meets}, Due.{does_nothing, due_by, is_alone, is_empty}, Rests.{PhaseRun, first_open, rest_of}}
+use Rattle.core_due.specs.{Due.{does_nothing, is_empty}, Wants.meets}
+use Rattle.seeded_run.specs.{Can.able_in, Due.{due_by, is_alone}, Rests.{PhaseRun, first_open, rest_of}}
 
 -- a page that isn't shown is next in the history, with everyone else idle
 abbrev pub ArePagesNext : Setting → World → (ℕ → List Command) → Type 0

@@ -5,7 +5,8 @@ use Rattle.script_run.specs.{Between.IsInOrder, Places.{begins_of, count_of, ses
 use Rattle.row_ledger.specs.Settled.{pulls_since, settle_pulls}
 use Rattle.volap_cell.specs.{Setting.Setting, Steps.history_in, World.World, declared.command.Command.Command as OpenCommand, declared.command.Work.Work}
 use Rattle.volap_cell.specs.declared.command.Work.TheVariants as work_is
-use Rattle.seeded_run.specs.{Cursors.HasCursors, Due.{does_nothing, is_alone}, Progress.{ArePagesNext, AreScriptRoles, IsNobodyIn, IsPhaseOf}, Rests.{PhaseRun, first_open, rest_of}}
+use Rattle.core_due.specs.Due.{does_nothing}
+use Rattle.seeded_run.specs.{Cursors.HasCursors, Due.is_alone, Progress.{ArePagesNext, AreScriptRoles, IsNobodyIn, IsPhaseOf}, Rests.{PhaseRun, first_open, rest_of}}
 
 -- by session: where the command began that its actor has open
 abbrev pub opened_in : World → ℕ → Option ℕ

@@ -1,35 +1,13 @@
--- What the steps that are due go on with: a part or a purse, an open command, or the next command.
-use Rattle.std.specs.Prelude.{ℕ, ◌≡◌, ◌&&◌, Bool, is_none, is_some, true, false, List, Option, Some, None, get_or}
+-- What the steps that are due go on with: a part or a purse, or the next command.
+use Rattle.std.specs.Prelude.{ℕ, ◌&&◌, Bool, is_none, is_some, false, List, Option, Some, None, get_or}
 use Rattle.volap_cell.specs.{Values.{ErrandValue, actor_of}, declared.actor.Actor.Actor, declared.kind.Kind.Kind}
 use Rattle.volap_cell.specs.declared.kind.Kind.TheVariants as kind
-use Rattle.seeded_run.specs.{AtWork.errand_by, Commands.may_begin, Told.is_of_part, Works.command_by}
-
-abbrev pub HasCommand : List (Option Actor) → ℕ → Type 0
-HasCommand actors n = is_some (command_by actors n) ≡ true
+use Rattle.seeded_run.specs.{Commands.may_begin, Told.is_of_part}
 
 -- whether a step of this kind goes on with the part that its actor has, or with its purse: who looks up without a part reads a load
 abbrev pub is_for_part : Option ErrandValue → Kind → Bool
 is_for_part errand kind.LookUp = is_some errand
 is_for_part errand k = is_of_part k
-
-abbrev pub is_for_part_by : List (Option Actor) → ℕ → Kind → Bool
-is_for_part_by actors n k = is_for_part (errand_by actors n) k
-
--- kinds that go on with an open command
-abbrev pub is_at_command : Kind → Bool
-is_at_command kind.Ack = true
-is_at_command kind.Answer = true
-is_at_command kind.Route = true
-is_at_command kind.Sync = true
-is_at_command kind.Note = true
-is_at_command kind.LookUp = true
-is_at_command kind.Freeze = true
-is_at_command kind.Drained = true
-is_at_command kind.Collect = true
-is_at_command kind.BuildBlock = true
-is_at_command kind.FinishSplit = true
-is_at_command kind.FinishMove = true
-is_at_command _ = false
 
 -- whether a step of this kind begins the actor's next command
 abbrev pub begins_of_one : Option Actor → Kind → Bool

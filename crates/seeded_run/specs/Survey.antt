@@ -3,7 +3,8 @@ use Rattle.std.specs.{List.list_any, Prelude.{ℕ, ◌≡◌, ◌%◌, ◌<◌, 
 use Rattle.query_router.specs.Desk.{waits_for}
 use Rattle.row_ledger.specs.declared.settings.Use.{Use}
 use Rattle.volap_cell.specs.{Cells.desk_in, Setting.desk_cell, declared.actor.Actor.Actor, declared.cell.Cell.Cell}
-use Rattle.seeded_run.specs.{Due.any_below, Look.{cell_at, setting_by}, Takes.carries_at, declared.survey.Survey.Survey}
+use Rattle.core_due.specs.{Due.any_below, Look.{cell_at, setting_by}}
+use Rattle.seeded_run.specs.{Takes.carries_at, declared.survey.Survey.Survey}
 
 -- so many workers a byte tells, and so many marks there are for blocks
 

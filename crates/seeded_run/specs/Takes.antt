@@ -7,13 +7,33 @@ use Rattle.row_ledger.specs.declared.settings.Use.{Use}
 use Rattle.script_form.specs.declared.script.Command.{Command}
 use Rattle.script_form.specs.declared.script.Command.TheVariants as script
 use Rattle.script_run.specs.Phases.{closes}
-use Rattle.volap_cell.specs.{Cells.block_in, Errands.way_of, Values.{ErrandValue, OfRow, actor_of}, declared.actor.Actor.Actor, declared.cell.Cell.Cell, declared.errand.RowErrand.RowErrand, declared.errand.Way.TheVariants.Carried, declared.kind.Kind.Kind, declared.role.Role.TheVariants.Session}
-use Rattle.seeded_run.specs.{Can.{is_carried_at, wanted_of}, Due.{all_below, is_empty_desk}, Look.{cell_at, setting_by, world_by}}
+use Rattle.volap_cell.specs.{Cells.{block_in, way_in}, Errands.way_of, Values.{ErrandValue, OfRow, TaskValue, actor_of}, World.World, declared.actor.Actor.Actor, declared.cell.Cell.Cell, declared.errand.RowErrand.RowErrand, declared.errand.Way.TheVariants.Carried, declared.kind.Kind.Kind, declared.role.Role.TheVariants.Session}
+use Rattle.core_due.specs.{Due.{all_below, is_empty_desk}, Look.{cell_at, setting_by, world_by}, Wants.{child_of, is_carried_at, wanted_of}, declared.parts.PartDue.PartDue}
+use Rattle.core_due.specs.declared.parts.PartDue.TheVariants.{Descends, Enters, Tree}
+use Rattle.core_steps.specs.declared.trees.TreeStep.TheVariants.{VisitBlock}
 
 -- a row and the block at which it is carried are of the dimensions
 pub record CanPick (h : List Dimension) (cells : List (Option Cell)) (e : ErrandValue) : Type 0 where
   pub body : (r : RowErrand) (gate block : ℕ) → e.task ≡ OfRow r → r.way ≡ Carried gate block → IsBodyOf h (block_in (cell_at cells block)).body
   pub row : (r : RowErrand) (gate block : ℕ) → e.task ≡ OfRow r → r.way ≡ Carried gate block → IsRowOf h r.row
+
+-- a row that goes down from a block, and that block, are of the dimensions
+abbrev pub FitsDue : (h : List Dimension) (cells : List (Option Cell)) (e : ErrandValue) → PartDue → Type 0
+FitsDue h cells e (Descends block) = IsBodyOf h (block_in (cell_at cells block)).body × ((r : RowErrand) → e.task ≡ OfRow r → IsRowOf h r.row)
+FitsDue h cells e due = ⊤
+
+-- The block that a step wants, by what is due.
+
+-- the child of a block that comes first for a row
+abbrev pub child_for : List Dimension → World → TaskValue → (block : ℕ) → Option ℕ
+child_for h w (OfRow r) block = child_of h r.row (block_in (w.cells block))
+child_for h w _ block = None
+
+abbrev pub wanted_for : List Dimension → World → ErrandValue → PartDue → Option ℕ
+wanted_for h w e (Enters map gate) = Some (way_in (w.cells gate)).root
+wanted_for h w e (Descends block) = child_for h w e.task block
+wanted_for h w e (Tree (VisitBlock block)) = Some block
+wanted_for h w e _ = None
 
 -- who isn't there carries no row
 abbrev pub carries_at : Option Actor → ℕ → Bool

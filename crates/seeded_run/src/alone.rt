@@ -1,10 +1,10 @@
 //! Whether everyone but one actor is idle.
 ghost use Rattle.std.specs.Prelude.{◌≡◌, option_copied};
-ghost use Rattle.seeded_run.specs.Due.{does_nothing};
+ghost use Rattle.core_due.specs.Due.{does_nothing};
 ghost use Rattle.seeded_run.specs.Look.{alone_by, others_end, others_rest, rests};
 ghost use Rattle.volap_cell.specs.Values.{actor_of};
 
-use crate::errands_due::is_spent;
+use core_due::is_spent;
 use script_form::Command;
 use volap_cell::Actor;
 

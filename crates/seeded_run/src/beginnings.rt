@@ -1,16 +1,15 @@
 //! The steps by which an actor begins its next command.
 ghost use Rattle.std.specs.Prelude.{ℕ, ◌≡◌, true, Err, OnErr, OnOk, Some};
-ghost use Rattle.core_steps.specs.Ready.{Stays};
+ghost use Rattle.core_steps.specs.Steps.{IsFurther, IsSame};
 ghost use Rattle.dim_hierarchy.specs.declared.hierarchy.FilterFault.TheVariants.{Unknown};
 ghost use Rattle.script_form.specs.declared.script.Command.TheVariants.{Control, Insert, Query};
 ghost use Rattle.script_run.specs.Runs.{first_unknown};
 ghost use Rattle.seeded_run.specs.Commands.{GoesBy, IsToBegin, beginning, may_be_refused};
 ghost use Rattle.seeded_run.specs.Core.{HasCore, StepsOn};
 ghost use Rattle.volap_cell.specs.ImageKinds.{asks_registry};
-ghost use Rattle.volap_cell.specs.State.{Stepped};
 ghost use Rattle.volap_cell.specs.declared.kind.Kind.TheVariants.{Note};
 
-use crate::places::{desk_place, image_place, ledger_place, registry_place};
+use core_steps::{BookStep, NoteStep, desk_place, image_place, make};
 use dim_hierarchy::{FilterFault, Hierarchy};
 use row_ledger::{Call, Class, Subject, Use};
 use script_form::{Command, NewRow, Question};
@@ -29,17 +28,22 @@ fn begin_insert(
 ) -> Result<(), FilterFault>
     requires core { HasCore h.now with.now state.old.cells.items state.old.actors.items }
     requires begins { IsToBegin h.now with.now state.old.cells.items state.old.actors.items number (Insert new.now) }
-    ensures made { OnOk result (Stepped h.now (beginning h.now (Insert new.now)) number state.old.cells.items state.old.actors.items state.new.cells.items state.new.actors.items) }
+    ensures made { OnOk result (IsFurther h.now (beginning h.now (Insert new.now)) number state.old state.new) }
     ensures unknown { (dim : ℕ) → result ≡ Err (Unknown dim) → first_unknown h.now (Insert new.now) ≡ Some dim }
     ensures begun { OnOk result (GoesBy with.now h.now (Insert new.now) state.old.cells.items state.old.actors.items state.new.cells.items state.new.actors.items) }
-    ensures stays { OnErr result (Stays state.old.cells.items state.old.actors.items state.new.cells.items state.new.actors.items) }
+    ensures stays { OnErr result (IsSame state.old state.new) }
 {
     let _ = with;
     let image = image_place(new.server);
-    let ledger = ledger_place();
     match h.coord(&new.names) {
         Ok(at) => {
-            core_steps::begin_insert(alloc, h, state, number, image, ledger, at, new.measures)?;
+            let measures = new.measures;
+            let step = BookStep::BeginInsert {
+                image,
+                at,
+                measures,
+            };
+            make(alloc, h, state, number, step)?;
             Ok(())
         }
         Err(dim) => Err(FilterFault::Unknown { dim }),
@@ -58,16 +62,20 @@ fn begin_query(
 ) -> Result<(), FilterFault>
     requires core { HasCore h.now with.now state.old.cells.items state.old.actors.items }
     requires begins { IsToBegin h.now with.now state.old.cells.items state.old.actors.items number (Query question.now) }
-    ensures made { OnOk result (Stepped h.now (beginning h.now (Query question.now)) number state.old.cells.items state.old.actors.items state.new.cells.items state.new.actors.items) }
+    ensures made { OnOk result (IsFurther h.now (beginning h.now (Query question.now)) number state.old state.new) }
     ensures unknown { (dim : ℕ) → result ≡ Err (Unknown dim) → first_unknown h.now (Query question.now) ≡ Some dim }
     ensures begun { OnOk result (GoesBy with.now h.now (Query question.now) state.old.cells.items state.old.actors.items state.new.cells.items state.new.actors.items) }
-    ensures stays { OnErr result (Stays state.old.cells.items state.old.actors.items state.new.cells.items state.new.actors.items) }
+    ensures stays { OnErr result (IsSame state.old state.new) }
 {
     let desk = desk_place(with, question.server);
     let image = image_place(question.server);
-    let ledger = ledger_place();
     let filter = h.filter(alloc, &question.filter)?;
-    core_steps::begin_query(alloc, h, state, number, desk, image, ledger, filter)?;
+    let step = BookStep::BeginQuery {
+        desk,
+        image,
+        filter,
+    };
+    make(alloc, h, state, number, step)?;
     Ok(())
 }
 
@@ -93,26 +101,19 @@ fn begin_call(
 ) -> Result<(), AllocError>
     requires core { HasCore h.now with.now state.old.cells.items state.old.actors.items }
     requires begins { IsToBegin h.now with.now state.old.cells.items state.old.actors.items number (Control called.now) }
-    ensures made { OnOk result (Stepped h.now Note number state.old.cells.items state.old.actors.items state.new.cells.items state.new.actors.items) }
+    ensures made { OnOk result (IsFurther h.now Note number state.old state.new) }
     ensures begun { OnOk result (GoesBy with.now h.now (Control called.now) state.old.cells.items state.old.actors.items state.new.cells.items state.new.actors.items) }
-    ensures stays { OnErr result (Stays state.old.cells.items state.old.actors.items state.new.cells.items state.new.actors.items) }
+    ensures stays { OnErr result (IsSame state.old state.new) }
 {
-    let ledger = ledger_place();
-    if asks_registry(called.class()) {
-        let registry = registry_place();
-        core_steps::note_asking(
-            alloc,
-            h,
-            state,
-            number,
-            registry,
-            ledger,
-            called,
-            with.workers,
-        )
+    let step = if asks_registry(called.class()) {
+        NoteStep::Asking {
+            call: called,
+            workers: with.workers,
+        }
     } else {
-        core_steps::note_called(h, state, number, ledger, called)
-    }
+        NoteStep::Called { call: called }
+    };
+    make(alloc, h, state, number, step)
 }
 
 /// The actor begins its next command. Where that names what is not known, or memory is wanting, the state
@@ -127,10 +128,10 @@ fn begin_known(
 ) -> Result<(), FilterFault>
     requires core { HasCore h.now with.now state.old.cells.items state.old.actors.items }
     requires begins { IsToBegin h.now with.now state.old.cells.items state.old.actors.items number command.now }
-    ensures made { OnOk result (Stepped h.now (beginning h.now command.now) number state.old.cells.items state.old.actors.items state.new.cells.items state.new.actors.items) }
+    ensures made { OnOk result (IsFurther h.now (beginning h.now command.now) number state.old state.new) }
     ensures unknown { (dim : ℕ) → result ≡ Err (Unknown dim) → first_unknown h.now command.now ≡ Some dim }
     ensures begun { OnOk result (GoesBy with.now h.now command.now state.old.cells.items state.old.actors.items state.new.cells.items state.new.actors.items) }
-    ensures stays { OnErr result (Stays state.old.cells.items state.old.actors.items state.new.cells.items state.new.actors.items) }
+    ensures stays { OnErr result (IsSame state.old state.new) }
 {
     match command {
         Command::Insert(new) => begin_insert(alloc, h, with, state, number, new),
@@ -145,6 +146,7 @@ fn begin_known(
 /// The actor's next command names what is not known, first in this dimension, and ends with that. Where
 /// memory is wanting for it, the state stays as it was.
 fn end_unknown(
+    alloc: Global,
     h: &Hierarchy,
     with: &Use,
     state: &mut State,
@@ -155,13 +157,13 @@ fn end_unknown(
     requires core { HasCore h.now with.now state.old.cells.items state.old.actors.items }
     requires begins { IsToBegin h.now with.now state.old.cells.items state.old.actors.items number command.now }
     requires unknown { first_unknown h.now command.now ≡ Some dim }
-    ensures made { OnOk result (Stepped h.now Note number state.old.cells.items state.old.actors.items state.new.cells.items state.new.actors.items) }
+    ensures made { OnOk result (IsFurther h.now Note number state.old state.new) }
     ensures begun { OnOk result (GoesBy with.now h.now command.now state.old.cells.items state.old.actors.items state.new.cells.items state.new.actors.items) }
-    ensures stays { OnErr result (Stays state.old.cells.items state.old.actors.items state.new.cells.items state.new.actors.items) }
+    ensures stays { OnErr result (IsSame state.old state.new) }
 {
     let _ = with;
     let _ = command;
-    core_steps::note_unknown(h, state, number, ledger_place(), dim)
+    make(alloc, h, state, number, NoteStep::Unknown { dim })
 }
 
 /// The actor begins its next command, or ends it where it names what is not known. Where memory is wanting
@@ -176,13 +178,15 @@ fn try_to_begin(
 ) -> Result<(), AllocError>
     requires core { HasCore h.now with.now state.old.cells.items state.old.actors.items }
     requires begins { IsToBegin h.now with.now state.old.cells.items state.old.actors.items number command.now }
-    ensures made { OnOk result (Stepped h.now (beginning h.now command.now) number state.old.cells.items state.old.actors.items state.new.cells.items state.new.actors.items) }
+    ensures made { OnOk result (IsFurther h.now (beginning h.now command.now) number state.old state.new) }
     ensures begun { OnOk result (GoesBy with.now h.now command.now state.old.cells.items state.old.actors.items state.new.cells.items state.new.actors.items) }
-    ensures stays { OnErr result (Stays state.old.cells.items state.old.actors.items state.new.cells.items state.new.actors.items) }
+    ensures stays { OnErr result (IsSame state.old state.new) }
 {
     match begin_known(alloc, h, with, state, number, command) {
         Ok(()) => Ok(()),
-        Err(FilterFault::Unknown { dim }) => end_unknown(h, with, state, number, command, dim),
+        Err(FilterFault::Unknown { dim }) => end_unknown(
+            alloc, h, with, state, number, command, dim,
+        ),
         Err(FilterFault::NoMemory) => Err(AllocError),
     }
 }
@@ -200,6 +204,7 @@ fn may_be_refused(command: &Command) -> bool
 /// For the actor's next command there was no memory before it began, and it ends with that. Where memory is
 /// wanting for that too, the state stays as it was.
 fn refuse(
+    alloc: Global,
     h: &Hierarchy,
     with: &Use,
     state: &mut State,
@@ -209,13 +214,13 @@ fn refuse(
     requires core { HasCore h.now with.now state.old.cells.items state.old.actors.items }
     requires begins { IsToBegin h.now with.now state.old.cells.items state.old.actors.items number command.now }
     requires refused { may_be_refused command.now ≡ true }
-    ensures made { OnOk result (Stepped h.now Note number state.old.cells.items state.old.actors.items state.new.cells.items state.new.actors.items) }
+    ensures made { OnOk result (IsFurther h.now Note number state.old state.new) }
     ensures begun { OnOk result (GoesBy with.now h.now command.now state.old.cells.items state.old.actors.items state.new.cells.items state.new.actors.items) }
-    ensures stays { OnErr result (Stays state.old.cells.items state.old.actors.items state.new.cells.items state.new.actors.items) }
+    ensures stays { OnErr result (IsSame state.old state.new) }
 {
     let _ = with;
     let _ = command;
-    core_steps::note_refused(h, state, number, ledger_place())
+    make(alloc, h, state, number, NoteStep::Refused)
 }
 
 /// The actor begins its next command, or ends it where it names what is not known. Where no memory is found
@@ -233,11 +238,11 @@ pub(crate) fn begin(
     requires begins { IsToBegin h.now with.now state.old.cells.items state.old.actors.items number command.now }
     ensures made { OnOk result (StepsOn h.now (beginning h.now command.now) number state.old.cells.items state.old.actors.items state.new.cells.items state.new.actors.items) }
     ensures begun { OnOk result (GoesBy with.now h.now command.now state.old.cells.items state.old.actors.items state.new.cells.items state.new.actors.items) }
-    ensures stays { OnErr result (Stays state.old.cells.items state.old.actors.items state.new.cells.items state.new.actors.items) }
+    ensures stays { OnErr result (IsSame state.old state.new) }
 {
     match try_to_begin(alloc, h, with, state, number, command) {
         Ok(()) => Ok(()),
         Err(error) if !may_be_refused(command) => Err(error),
-        Err(_) => refuse(h, with, state, number, command),
+        Err(_) => refuse(alloc, h, with, state, number, command),
     }
 }

@@ -1,20 +1,21 @@
 //! A phase of which the steps are made by hand: who makes the next one is up to the caller.
 ghost use Rattle.std.specs.Prelude.{◌≡◌, ◌++◌, ◌<◌, true, false, length, IfOk, IfSome, OnErr, None, Some};
+ghost use Rattle.core_due.specs.Works.{work_due_kind};
 ghost use Rattle.seeded_run.specs.ByHand.{CannotMoveAt, HasMoved, HasMovedTo, IsLater, IsOfJob, MovesTo, StopsAmong, StopsAmongAt, may_find_none};
-ghost use Rattle.seeded_run.specs.Due.{due};
-ghost use Rattle.seeded_run.specs.Jobs.{CanGiveUpBy};
 ghost use Rattle.seeded_run.specs.Kept.{AreIdle, IsBetween, IsStopped};
-ghost use Rattle.seeded_run.specs.Machine.{AreFirstCursors, HasStoppedBehindAny, HasTurned, HoldsNow, IsDueNow, IsDueStep, IsFirstMoment, IsPhaseHeld, IsSamePhase, about_in, can_in, phase_of, world_of};
+ghost use Rattle.seeded_run.specs.Machine.{AreFirstCursors, BeginsNow, HasStoppedBehindAny, HasTurned, HoldsNow, IsDueNow, IsDueStep, IsFirstMoment, IsPhaseHeld, IsSamePhase, about_in, can_in, phase_of, world_of};
 ghost use Rattle.seeded_run.specs.Phase.{ClosesLast, IsCoreHeld, MayAllRun, StopsBehindAny, about, held, phase_from};
+ghost use Rattle.seeded_run.specs.declared.turn.DueStep.TheVariants.{AtWork};
 ghost use Rattle.volap_cell.specs.Setting.{actor_count};
 ghost use Rattle.volap_cell.specs.declared.kind.Kind.TheVariants as kind_is;
 
-use crate::due_step::DueStep;
 use crate::hands::FreeHands;
-use crate::jobs::{give_up, has_frozen_by};
-use crate::look;
+use crate::kinds::{kind_of_beginning, kind_of_part, kind_of_work};
 use crate::machine::Running;
 use crate::phase::{first_cursors, streams_open};
+use crate::turn::DueStep;
+use core_due::WorkDue;
+use core_steps::{JobStep, make};
 use dim_hierarchy::Hierarchy;
 use row_ledger::Use;
 use script_form::Command;
@@ -40,16 +41,33 @@ fn may_find_none(kind: Kind) -> bool
 }
 
 impl<'a> Running<'a> {
-    /// The kind of step that is due for an actor, if one is. It may have to wait.
+    /// The kind of step by which an actor's next command begins, where that is due.
+    fn kind_begun(&self, number: usize) -> Kind
+        requires held { IsPhaseHeld self.now }
+        requires within { number < length self.now.state.actors.items }
+        requires begins { BeginsNow self.now number }
+        ensures due { IsDueNow self.now number result }
+    {
+        let Some(command) = self.next_command(number) else {
+            unreachable!()
+        };
+        kind_of_beginning(self.h, command)
+    }
+
+    /// The kind of the step that an actor is to make.
     #[tactic(auto, unfolding(crate::specs::Machine::HoldsNow))]
-    fn kind_due(&self, actor: u32) -> Option<Kind>
+    fn kind_of(&self, actor: u32, step: &DueStep) -> Kind
         requires holds { HoldsNow self.now }
         requires within { actor < length self.now.next.items }
-        ensures { due (about_in self.now) (phase_of self.now) (world_of self.now) actor ≡ result }
+        requires due { IsDueStep self.now actor step.now }
+        ensures due { IsDueNow self.now actor result }
     {
-        let number = actor as usize;
-        let next = self.next_command(number);
-        look::due(self.h, &self.with, &self.state, number, next, self.left)
+        match step {
+            DueStep::Begins => self.kind_begun(actor as usize),
+            DueStep::Takes { .. } => Kind::TakePart,
+            DueStep::AtPart(due) => kind_of_part(due),
+            DueStep::AtWork(due) => kind_of_work(due),
+        }
     }
 
     /// What an actor does on its turn, if there is such an actor, and it can make a step.
@@ -66,38 +84,37 @@ impl<'a> Running<'a> {
     }
 
     /// An actor's job is given up, in place of the step that is due for it, as where that finds no memory.
-    fn postpone(&mut self, number: usize, kind: Kind)
+    fn postpone(&mut self, alloc: Global, number: usize, due: &WorkDue)
         requires held { IsPhaseHeld self.old }
         requires within { number < length self.old.state.actors.items }
-        requires due { IsDueNow self.old number kind }
-        requires of_job { IsOfJob kind }
-        requires frozen { CanGiveUpBy self.old.state.actors.items number }
+        requires due { IsDueStep self.old number (AtWork due.now) }
+        requires frozen { may_find_none (work_due_kind due.now) ≡ true }
+        requires of_job { IsOfJob (work_due_kind due.now) }
         ensures turned { HasTurned self.old number self.new }
     {
-        let _ = kind;
-        give_up(self.h, &self.with, &mut self.state, number);
+        let _ = due;
+        let _ = make(alloc, self.h, &mut self.state, number, JobStep::Postpone);
     }
 
-    /// An actor that can make a step gives its job up, where it has one whose step is due and might find no memory. Tells
-    /// whether it has.
+    /// An actor gives its job up, where its step is due and might find no memory. Tells whether it has.
     #[tactic(auto, unfolding(crate::specs::Machine::HoldsNow))]
-    fn make_postpone(&mut self, actor: u32) -> bool
+    fn make_postpone(&mut self, alloc: Global, actor: u32, step: &DueStep) -> bool
         requires holds { HoldsNow self.old }
         requires within { actor < length self.old.next.items }
-        requires can { can_in self.old actor ≡ true }
+        requires due { IsDueStep self.old actor step.now }
         ensures holds { HoldsNow self.new }
         ensures later { IsLater self.old self.new }
         ensures moved { result ≡ true → MovesTo self.old actor (Some kind_is.Postpone) self.new }
         ensures none { result ≡ false → self.new ≡ self.old }
     {
         let number = actor as usize;
-        let Some(kind) = self.kind_due(actor) else {
+        let DueStep::AtWork(due) = step else {
             return false;
         };
-        if !may_find_none(kind) || !has_frozen_by(&self.state, number) {
+        if !may_find_none(kind_of_work(due)) {
             return false;
         }
-        self.postpone(number, kind);
+        self.postpone(alloc, number, due);
         self.look_first(number);
         true
     }
@@ -121,9 +138,9 @@ impl<'a> Running<'a> {
             return Ok(kind.is_none());
         };
         if kind == Some(Kind::Postpone) {
-            return Ok(self.make_postpone(actor));
+            return Ok(self.make_postpone(alloc, actor, &step));
         }
-        if self.kind_due(actor) != kind {
+        if Some(self.kind_of(actor, &step)) != kind {
             return Ok(false);
         }
         self.step(alloc, actor, step)?;

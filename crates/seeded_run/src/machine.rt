@@ -1,20 +1,19 @@
 //! The turns of a phase: what an actor does whose turn it is.
 ghost use Rattle.std.specs.Prelude.{◌≡◌, ◌<◌, ◌+◌, length, slice_get, option_copied, OnOk, OnErr, Some, None};
 ghost use Rattle.std.specs.Prelude.{false, true, IfSome, get_or, if◌then◌else◌, option_map};
-ghost use Rattle.seeded_run.specs.declared.due_step.DueStep.TheVariants.{GoesOn};
-ghost use Rattle.volap_cell.specs.declared.kind.Kind.TheVariants.{TakePart};
+ghost use Rattle.seeded_run.specs.declared.turn.DueStep.TheVariants.{AtPart, AtWork, Takes};
 ghost use Rattle.script_run.specs.Places.{session_of};
-ghost use Rattle.seeded_run.specs.Machine.{AloneInOrder, BeginsNow, HasBegunTo, HasMovedOn, HasTurned, HoldsNow, IsDueNow, IsDueStep, IsPhaseHeld, IsPhaseKept, KnowsOtherHands, LeavesAtMost, RestsAsIs, TakesTurn, TellsSurvey, WaitsAt, about_in, can_in, next_at, phase_of, step_in, streams_open, world_of};
-ghost use Rattle.seeded_run.specs.DueSteps.{step_if_free};
-ghost use Rattle.seeded_run.specs.Steps.{begins_by};
+ghost use Rattle.seeded_run.specs.Machine.{AloneInOrder, BeginsNow, HasBegunTo, HasMovedOn, HasTurned, HoldsNow, IsDueStep, IsPhaseHeld, IsPhaseKept, KnowsOtherHands, LeavesAtMost, RestsAsIs, TakesTurn, TellsSurvey, WaitsAt, about_in, can_in, next_at, phase_of, step_in, streams_open, world_of};
+ghost use Rattle.seeded_run.specs.DueSteps.{KnowsBytes, step_if_free};
 
 use crate::alone::rests;
 use crate::beginnings::begin;
-use crate::can::{is_its_turn, step_if_free};
-use crate::due_step::DueStep;
 use crate::hands::FreeHands;
-use crate::steps::{go_on_at_part, go_on_with_command, is_for_part};
+use crate::parts::{go_on_at_part, take_part};
 use crate::survey::Survey;
+use crate::turn::{DueStep, due, is_its_turn};
+use crate::works::go_on_with_work;
+use core_due::{PartDue, WorkDue};
 use dim_hierarchy::Hierarchy;
 use row_ledger::Use;
 use script_form::Command;
@@ -22,7 +21,7 @@ use script_run::{next_of, session_of};
 use seeded_turns::Machine;
 use std::alloc::{AllocError, Global};
 use std::snapshot::Snapshot;
-use volap_cell::{Kind, State};
+use volap_cell::State;
 
 /// A phase that runs.
 #[derive(Drop)]
@@ -49,10 +48,10 @@ pub struct Running<'a> {
 
 /// What a hand of the worker does that has nothing to do: it takes a part that waits for the worker, if one does.
 fn part_taken(survey: &Survey, worker: u8) -> Option<DueStep>
-    ensures { result ≡ (if get_or survey.now.awaited worker false then Some (GoesOn TakePart) else None) }
+    ensures { result ≡ (if get_or survey.now.awaited worker false then Some (Takes worker) else None) }
 {
     if survey.is_awaited(worker) {
-        Some(DueStep::GoesOn(Kind::TakePart))
+        Some(DueStep::Takes { worker })
     } else {
         None
     }
@@ -67,19 +66,34 @@ impl<'a> Running<'a> {
         self.phase.get(self.next[number])
     }
 
-    /// An actor goes on with its part, its purse or its command, where that is due.
-    fn go_on(&mut self, alloc: Global, number: usize, kind: Kind)
+    /// A hand of the worker takes a part, where that is due.
+    fn take_part(&mut self, alloc: Global, number: usize, worker: u8)
         requires held { IsPhaseHeld self.old }
         requires within { number < length self.old.state.actors.items }
-        requires due { IsDueNow self.old number kind }
-        requires goes_on { begins_by self.old.state.actors.items number kind ≡ false }
+        requires due { IsDueStep self.old number (Takes worker) }
         ensures turned { HasTurned self.old number self.new }
     {
-        if is_for_part(&self.state, number, kind) {
-            go_on_at_part(alloc, self.h, &self.with, &mut self.state, number, kind);
-        } else {
-            go_on_with_command(alloc, self.h, &self.with, &mut self.state, number, kind);
-        }
+        take_part(alloc, self.h, &self.with, &mut self.state, number, worker);
+    }
+
+    /// An actor goes on with its part or its purse, where that is due.
+    fn go_on_at_part(&mut self, alloc: Global, number: usize, due: PartDue)
+        requires held { IsPhaseHeld self.old }
+        requires within { number < length self.old.state.actors.items }
+        requires due { IsDueStep self.old number (AtPart due) }
+        ensures turned { HasTurned self.old number self.new }
+    {
+        go_on_at_part(alloc, self.h, &self.with, &mut self.state, number, due);
+    }
+
+    /// An actor goes on with its command, where that is due.
+    fn go_on_with_work(&mut self, alloc: Global, number: usize, due: WorkDue)
+        requires held { IsPhaseHeld self.old }
+        requires within { number < length self.old.state.actors.items }
+        requires due { IsDueStep self.old number (AtWork due) }
+        ensures turned { HasTurned self.old number self.new }
+    {
+        go_on_with_work(alloc, self.h, &self.with, &mut self.state, number, due);
     }
 
     /// An actor's next command begins, where that is due: then its session's next one is the one behind it.
@@ -114,8 +128,16 @@ impl<'a> Running<'a> {
                 };
                 self.begin(alloc, number, command)
             }
-            DueStep::GoesOn(kind) => {
-                self.go_on(alloc, number, kind);
+            DueStep::Takes { worker } => {
+                self.take_part(alloc, number, worker);
+                Ok(())
+            }
+            DueStep::AtPart(due) => {
+                self.go_on_at_part(alloc, number, due);
+                Ok(())
+            }
+            DueStep::AtWork(due) => {
+                self.go_on_with_work(alloc, number, due);
                 Ok(())
             }
         }
@@ -181,10 +203,11 @@ impl<'a> Running<'a> {
         requires within { number < length self.now.next.items }
         requires told { IfSome (option_copied survey) (TellsSurvey self.now) }
         requires turn { self.now.in_order ≡ true → self.now.first ≡ Some number }
-        ensures { step_if_free (about_in self.now) (phase_of self.now) (world_of self.now) number ≡ result }
+        ensures step { step_if_free (about_in self.now) (phase_of self.now) (world_of self.now) number ≡ result }
+        ensures bytes { IfSome result (KnowsBytes self.now.with.servers ((world_of self.now).actors number)) }
     {
         let next = self.next_command(number);
-        step_if_free(
+        due(
             self.h,
             &self.with,
             &self.state,
@@ -201,7 +224,8 @@ impl<'a> Running<'a> {
     fn step_in_turn(&self, number: usize) -> Option<DueStep>
         requires held { IsPhaseHeld self.now }
         requires within { number < length self.now.next.items }
-        ensures { step_in self.now number ≡ result }
+        ensures step { step_in self.now number ≡ result }
+        ensures bytes { IfSome result (KnowsBytes self.now.with.servers ((world_of self.now).actors number)) }
     {
         if is_its_turn(self.in_order, self.first, number) {
             self.step_on_turn(None, number)
@@ -218,7 +242,8 @@ impl<'a> Running<'a> {
         requires any { self.now.in_order ≡ false }
         requires within { number < length self.now.next.items }
         requires told { TellsSurvey self.now survey.now }
-        ensures { step_in self.now number ≡ result }
+        ensures step { step_in self.now number ≡ result }
+        ensures bytes { IfSome result (KnowsBytes self.now.with.servers ((world_of self.now).actors number)) }
     {
         match self.hands.worker_of(number) {
             Some(worker) if worker < self.with.workers => part_taken(survey, worker),

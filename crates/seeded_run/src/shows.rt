@@ -1,22 +1,26 @@
-//! The page of a tree, made and shown where it is due.
-ghost use Rattle.std.specs.Prelude.{◌≡◌, ◌<◌, length};
+//! The page that is due of an open command is made and shown.
+ghost use Rattle.std.specs.Prelude.{◌≡◌, [], IfOk, option_copied};
+ghost use Rattle.core_due.specs.Look.{cell_at, setting_by, world_by};
+ghost use Rattle.core_due.specs.WorksReady.{MayMakeNote};
+ghost use Rattle.core_steps.specs.Steps.{IsSound};
+ghost use Rattle.core_steps.specs.declared.notes.NoteStep.TheVariants as note;
+ghost use Rattle.row_ledger.specs.declared.class.Subject.TheVariants as subject;
+ghost use Rattle.row_ledger.specs.declared.settings.How.TheVariants as how;
 ghost use Rattle.seeded_run.specs.Arms.{GoesOnWithCommand};
-ghost use Rattle.seeded_run.specs.Core.{HasCore, IsDue};
-ghost use Rattle.seeded_run.specs.Look.{cell_at};
-ghost use Rattle.seeded_run.specs.Shown.{HasPageOf, standing_gate};
-ghost use Rattle.row_ledger.specs.declared.class.Subject.TheVariants.{Tree};
+ghost use Rattle.seeded_run.specs.Pages.{CanShow, MayTell, place_of};
 ghost use Rattle.server_image.specs.Registry.{host_of};
 ghost use Rattle.volap_cell.specs.Cells.{registry_in};
-ghost use Rattle.volap_cell.specs.Setting.{Setting, registry_cell};
+ghost use Rattle.volap_cell.specs.Setting.{registry_cell};
 ghost use Rattle.volap_cell.specs.declared.kind.Kind.TheVariants.{Note};
 
-use crate::places::{ledger_place, map_place, registry_place};
-use crate::reads::gate_there;
-use crate::sights::{cell_at, where_at};
+use crate::works::end_command;
+use core_due::{cell_at, map_at, where_at};
 use core_pages::Lent;
+use core_steps::{NoteStep, make, registry_place};
 use dim_hierarchy::Hierarchy;
-use row_ledger::{How, Page, Use};
-use std::alloc::Global;
+use mapping_table::Where;
+use row_ledger::{How, Page, Subject, Use};
+use std::alloc::{AllocError, Global};
 use volap_cell::{Cell, State};
 
 /// The worker of a shard, as the registry tells; none where it tells none.
@@ -29,40 +33,77 @@ fn host_at(cells: &[Option<Cell>], shard: u32) -> Option<u8>
     }
 }
 
-/// The gate of a shard, where the table of its worker leads; 0 where it leads to none. Takes no memory.
-fn standing_gate(with: &Use, cells: &[Option<Cell>], shard: u32) -> u32
-    ensures { (s : Setting) → s.servers ≡ with.now.servers → result ≡ standing_gate s cells.now shard }
+/// Where a shard is, as the table of its worker tells.
+fn place_of<'a>(with: &Use, cells: &'a [Option<Cell>], shard: u32) -> Option<&'a Where>
+    ensures { option_copied result ≡ place_of (setting_by [] with.now) (world_by cells.now) shard }
 {
     match host_at(cells, shard) {
-        Some(worker) => {
-            let place = where_at(cells, map_place(with, worker), shard);
-            gate_there(place)
-        }
-        None => 0,
+        Some(worker) => where_at(cells, map_at(with, worker), shard),
+        None => None,
     }
 }
 
-/// The tree of a shard that stands is shown, where that is due. Where memory is wanting for the page, the
-/// command ends so.
-pub(crate) fn show_tree(
+/// The page of the tree of a shard that stands.
+fn tree_page(
+    alloc: Global,
+    h: &Hierarchy,
+    with: &Use,
+    state: &State,
+    number: usize,
+    shard: u32,
+) -> Result<Page, AllocError>
+    requires can { CanShow h.now with.now state.now number (subject.Tree shard) }
+    ensures { IfOk result (MayTell h.now state.now number) }
+{
+    let Some(Where::Gate(gate)) = place_of(with, &state.cells, shard) else {
+        unreachable!()
+    };
+    let many = state.cells.len() as u32;
+    Ok(Page::Tree(core_pages::tree_page_at(alloc, &mut Lent { state }, many, *gate)?))
+}
+
+/// The page that is due of a command.
+fn page_of(
+    alloc: Global,
+    h: &Hierarchy,
+    with: &Use,
+    state: &State,
+    number: usize,
+    subject: Subject,
+) -> Result<Page, AllocError>
+    requires can { CanShow h.now with.now state.now number subject }
+    ensures { IfOk result (MayTell h.now state.now number) }
+{
+    match subject {
+        Subject::Tree(shard) => tree_page(alloc, h, with, state, number, shard),
+        Subject::Shards => Ok(Page::Shards(core_pages::shards_page(
+            alloc,
+            h,
+            &mut Lent { state },
+            with.servers,
+        )?)),
+        Subject::Rows => Ok(Page::Audit(core_pages::audit_page(&mut Lent { state }, with.servers))),
+    }
+}
+
+/// The page of the actor's command is made and shown. Where memory is wanting for it, the command ends so.
+pub(crate) fn show_page(
     alloc: Global,
     h: &Hierarchy,
     with: &Use,
     state: &mut State,
     number: usize,
-    shard: u32,
+    subject: Subject,
 )
-    requires core { HasCore h.now with.now state.old.cells.items state.old.actors.items }
-    requires within { number < length state.old.actors.items }
-    requires due { IsDue h.now with.now state.old.cells.items state.old.actors.items number Note }
-    requires shows { HasPageOf (Tree shard) state.old.actors.items number }
-    ensures made { GoesOnWithCommand h.now Note number state.old.cells.items state.old.actors.items state.new.cells.items state.new.actors.items }
+    requires sound { IsSound h.now state.old }
+    requires can { CanShow h.now with.now state.old number subject }
+    requires instead { MayMakeNote h.now state.old number (note.Ended how.NoMemory) }
+    ensures made { GoesOnWithCommand h.now Note number state.old state.new }
 {
-    let gate = standing_gate(with, &state.cells, shard);
-    let many = state.cells.len() as u32;
-    let ledger = ledger_place();
-    match core_pages::tree_page_at(alloc, &mut Lent { state }, many, gate) {
-        Ok(page) => core_steps::note_shown(h, state, number, ledger, Page::Tree(page)),
-        Err(_) => core_steps::note_ended(h, state, number, ledger, How::NoMemory),
+    match page_of(alloc, h, with, state, number, subject) {
+        Ok(page) => {
+            let _ = make(alloc, h, state, number, NoteStep::Shown { page });
+        }
+        Err(_) => end_command(alloc, h, state, number, How::NoMemory),
     }
 }

@@ -3,15 +3,14 @@ ghost use Rattle.std.specs.Prelude.{◌≡◌, ◌<◌, ◌||◌, ℕ, Some, Non
 ghost use Rattle.std.specs.List.{list_any, position};
 ghost use Rattle.query_router.specs.Desk.{is_waiting, waits_for};
 ghost use Rattle.seeded_run.specs.Hands.{AreFreeHands};
-ghost use Rattle.seeded_run.specs.Look.{cell_at};
+ghost use Rattle.core_due.specs.Look.{cell_at};
 ghost use Rattle.seeded_run.specs.Survey.{AllAwaited, IsSurvey, KnowsAwaited, MarksCarried, mark_of, worker_count};
 ghost use Rattle.seeded_run.specs.Takes.{carries_at};
 ghost use Rattle.volap_cell.specs.Cells.{desk_in};
 
 use crate::hands::FreeHands;
-use crate::places::desk_place;
-use crate::sights::cell_at;
 use crate::wanted::block_carried;
+use core_due::{cell_at, desk_at};
 use query_router::{Desk, Part};
 use row_ledger::Use;
 use volap_cell::{Actor, Cell, State};
@@ -127,7 +126,7 @@ fn awaited_by(with: &Use, cells: &[Option<Cell>]) -> [bool; WORKERS]
         known = note_cell(
             &mut awaited,
             cells,
-            desk_place(with, server),
+            desk_at(with, server),
             known,
             with.workers,
         );

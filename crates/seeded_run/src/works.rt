@@ -1,238 +1,181 @@
-//! The notes by which open commands end by themselves, made where they are due; and what is read of a command for that.
-ghost use Rattle.std.specs.Prelude.{◌≡◌, ◌<◌, ◌^◌, length, true};
+//! The step that is due for an actor's open command is made, or what is done in its place where memory is wanting.
+ghost use Rattle.std.specs.Prelude.{◌≡◌, Some};
+ghost use Rattle.core_due.specs.Splits.{split_of};
+ghost use Rattle.core_due.specs.Works.{work_due_kind};
+ghost use Rattle.core_due.specs.WorksReady.{IsWorkReady, MayMakeBook, MayMakeJob, MayMakeNote};
+ghost use Rattle.core_due.specs.declared.works.WorkDue.TheVariants.{Books, Jobs};
+ghost use Rattle.core_steps.specs.Books.{book_kind};
+ghost use Rattle.core_steps.specs.Jobs.{job_kind};
+ghost use Rattle.core_steps.specs.Steps.{IsSound};
+ghost use Rattle.core_steps.specs.declared.jobs.JobStep.{JobStep};
+ghost use Rattle.core_steps.specs.declared.notes.NoteStep.TheVariants as note;
 ghost use Rattle.seeded_run.specs.Arms.{GoesOnWithCommand};
-ghost use Rattle.seeded_run.specs.Core.{HasCore, IsDue};
-ghost use Rattle.seeded_run.specs.Works.{command_by, decline_at, decline_by, ending_by, ending_for, ending_of, has_own_note, is_balance, is_page_due, own_end, pull_of, server_or_first};
-ghost use Rattle.seeded_run.specs.declared.works.Ending.TheVariants.{Called, Insert, Query};
-ghost use Rattle.volap_cell.specs.Commands.{due_pull, settles_next};
-ghost use Rattle.volap_cell.specs.Values.{actor_of, stage_of};
+ghost use Rattle.seeded_run.specs.Drives.{HasActor, MayGiveWay, MayShow, Stops, StopsJob, StopsAtDesk, instead_of, is_balance, is_past_freeze, kind_of_stop};
 ghost use Rattle.volap_cell.specs.declared.kind.Kind.TheVariants.{Note};
 
-use crate::commands::session_server;
-use crate::commands_due::waits_for_others;
-use crate::places::{desk_place, image_place, ledger_place};
+use crate::shows::show_page;
+use core_due::{WorkDue, split_of};
+use core_steps::{BookStep, JobStep, NoteStep, PartStep, lent, make};
 use dim_hierarchy::Hierarchy;
-use row_ledger::{Decline, How, Use};
-use volap_cell::{Actor, Stage, State, Work};
+use row_ledger::{How, Use};
+use std::alloc::Global;
+use volap_cell::{Command, State, Work};
 
-/// By which note a command ends: an insert or a query for want of memory, or a called command in this way.
-#[derive(Clone, Copy, Debug, PartialEq, Eq)]
-pub(crate) enum Ending {
-    Insert,
-    Query,
-    Called(How),
-}
-
-/// The server for which a settle pulls next, the first one where it is at its end.
-fn settles_next(with: &Use, pulls: u16) -> u8
-    ensures { result ≡ server_or_first (settles_next with.now.servers pulls) }
+/// The actor's called command ends so. Takes no memory.
+pub(crate) fn end_command(alloc: Global, h: &Hierarchy, state: &mut State, number: usize, how: How)
+    requires sound { IsSound h.now state.old }
+    requires may { MayMakeNote h.now state.old number (note.Ended how) }
+    ensures made { GoesOnWithCommand h.now Note number state.old state.new }
 {
-    let servers = u16::from(with.servers);
-    if pulls < servers {
-        pulls as u8
-    } else if pulls < servers + servers {
-        (pulls - servers) as u8
-    } else {
-        0
-    }
-}
-
-/// The server for which a work pulls next, the first one where no pull is due.
-fn due_pull(with: &Use, work: &Work) -> u8
-    ensures { result ≡ server_or_first (due_pull with.now.servers work.now) }
-{
-    match work {
-        Work::Sync {
-            server,
-            pulled: false,
-        } => *server,
-        Work::Settle { pulls } => settles_next(with, *pulls),
-        _ => 0,
-    }
-}
-
-/// The server for which an actor's command pulls next, the first one where no pull is due.
-fn pull_of(with: &Use, actor: &Actor) -> u8
-    ensures { result ≡ pull_of with.now.servers (actor_of actor.now).command }
-{
-    match &actor.command {
-        Some(open) => due_pull(with, &open.work),
-        None => 0,
-    }
-}
-
-/// The server for which the command of the actor with this number pulls next, the first one where no pull
-/// is due. There are no more servers than a byte can tell.
-pub(crate) fn pull_by(with: &Use, state: &State, number: usize) -> u8
-    ensures value { result ≡ pull_of with.now.servers (command_by state.now.actors.items number) }
-    ensures few { with.now.servers < 2 ^ 8 }
-{
-    let _servers = with.servers;
-    match state.actors.get(number) {
-        Some(Some(actor)) => pull_of(with, actor),
-        _ => 0,
-    }
-}
-
-/// Whether a page is due of an actor's command, if it has come to that.
-fn has_page_due(actor: &Actor) -> bool
-    ensures { result ≡ is_page_due (actor_of actor.now).command }
-{
-    match &actor.command {
-        Some(open) => waits_for_others(&open.work),
-        None => false,
-    }
-}
-
-/// Whether a page is due of the command of the actor with this number, if it has come to that.
-pub(crate) fn is_page_due(state: &State, number: usize) -> bool
-    ensures { result ≡ is_page_due (command_by state.now.actors.items number) }
-{
-    match state.actors.get(number) {
-        Some(Some(actor)) => has_page_due(actor),
-        _ => false,
-    }
+    let _ = make(alloc, h, state, number, NoteStep::Ended { how });
 }
 
 /// Whether an actor's command is a balance.
-fn has_balance(actor: &Actor) -> bool
-    ensures { result ≡ is_balance (actor_of actor.now).command }
+fn is_balance(command: &Option<Command>) -> bool
+    ensures { result ≡ is_balance command.now }
 {
-    match &actor.command {
+    match command {
         Some(open) => matches!(open.work, Work::Balance(_)),
         None => false,
     }
 }
 
-/// Whether the command of the actor with this number is a balance.
-pub(crate) fn is_balance(state: &State, number: usize) -> bool
-    ensures { result ≡ is_balance (command_by state.now.actors.items number) }
+/// The actor's job found no memory, and its shard isn't frozen: a balance leaves the action, and any other
+/// command ends so. Takes no memory.
+fn end_unfrozen(alloc: Global, h: &Hierarchy, state: &mut State, number: usize)
+    requires sound { IsSound h.now state.old }
+    requires may { HasActor state.old number (Stops h.now state.old number) }
+    ensures made { GoesOnWithCommand h.now Note number state.old state.new }
 {
-    match state.actors.get(number) {
-        Some(Some(actor)) => has_balance(actor),
-        _ => false,
+    let balances = match &state.actors[number] {
+        Some(actor) => is_balance(&actor.command),
+        None => unreachable!(),
+    };
+    if balances {
+        let _ = make(alloc, h, state, number, NoteStep::Left);
+    } else {
+        end_command(alloc, h, state, number, How::NoMemory);
     }
 }
 
-/// Why a job at this stage is declined.
-fn decline_at(stage: &Stage) -> Decline
-    ensures { result ≡ decline_at (stage_of stage.now) }
+/// What is made in place of a job's step that found no memory. Takes no memory.
+fn give_way(alloc: Global, h: &Hierarchy, state: &mut State, number: usize, is_frozen: bool)
+    requires sound { IsSound h.now state.old }
+    requires may { StopsJob h.now state.old number is_frozen }
+    ensures made { GoesOnWithCommand h.now (kind_of_stop is_frozen) number state.old state.new }
 {
-    match stage {
-        Stage::Declined(why) => *why,
-        _ => Decline::Unknown,
+    if is_frozen {
+        let _ = make(alloc, h, state, number, JobStep::Postpone);
+    } else {
+        end_unfrozen(alloc, h, state, number);
     }
 }
 
-/// Why an actor's job is declined. Where it has none, the shard or the worker did not stand.
-fn decline_by(actor: &Actor) -> Decline
-    ensures { result ≡ decline_by (actor_of actor.now).job }
+/// Whether the shard of a job stays frozen where this step of it finds no memory.
+fn is_past_freeze(step: &JobStep) -> bool
+    ensures { result ≡ is_past_freeze step.now }
 {
-    match &actor.job {
-        Some(job) => decline_at(&job.stage),
-        None => Decline::Unknown,
+    !matches!(step, JobStep::Freeze { .. })
+}
+
+/// An actor goes on with its job.
+fn go_on_with_job(alloc: Global, h: &Hierarchy, state: &mut State, number: usize, step: JobStep)
+    requires sound { IsSound h.now state.old }
+    requires may { MayMakeJob h.now state.old number step }
+    requires instead { MayGiveWay h.now state.old number (Jobs step) }
+    ensures made { GoesOnWithCommand h.now (job_kind step) number state.old state.new }
+{
+    let is_frozen = is_past_freeze(&step);
+    match make(alloc, h, state, number, step) {
+        Ok(()) => {}
+        Err(_) => give_way(alloc, h, state, number, is_frozen),
     }
 }
 
-/// How a called command of an actor ends by its own note.
-fn own_end(actor: &Actor, work: &Work) -> How
-    ensures { result ≡ own_end work.now (actor_of actor.now).job }
+/// The end of an actor's split, as a step.
+fn split_end(state: &mut State, number: usize, map: u32, gate: u32) -> JobStep
+    requires found { HasActor state.old number (λ a. (step : JobStep) × (split_of map gate a.purse ≡ Some step)) }
+    ensures step { HasActor state.old number (λ a. split_of map gate a.purse ≡ Some result) }
+    ensures cells { state.new.cells.items ≡ state.old.cells.items }
+    ensures actors { state.new.actors.items ≡ state.old.actors.items }
 {
-    match work {
-        Work::Action(_) => How::Declined(decline_by(actor)),
-        Work::Page { there: false, .. } => How::Declined(Decline::Unknown),
-        _ => How::Fine,
+    split_of(&mut lent(&mut state.actors[number]).purse, map, gate)
+}
+
+/// What is made in place of a step that found no memory: an insert fails whose part isn't laid, and a pull ends.
+#[derive(Drop)]
+enum Instead {
+    Fails { image: u32 },
+    Ends,
+}
+
+/// What is made where this step finds no memory.
+fn instead_of(step: &BookStep) -> Instead
+    ensures { result ≡ instead_of step.now }
+{
+    match step {
+        BookStep::Route { image, .. } => Instead::Fails { image: *image },
+        _ => Instead::Ends,
     }
 }
 
-/// By which note a work of an actor ends.
-fn ending_of(actor: &Actor, work: &Work) -> Ending
-    ensures { result ≡ ending_of work.now (actor_of actor.now).job }
+/// It is made. Takes no memory.
+fn make_instead(alloc: Global, h: &Hierarchy, state: &mut State, number: usize, instead: Instead)
+    requires sound { IsSound h.now state.old }
+    requires may { StopsAtDesk h.now state.old number instead }
+    ensures made { GoesOnWithCommand h.now Note number state.old state.new }
 {
-    match work {
-        Work::Insert { .. } => Ending::Insert,
-        Work::Query => Ending::Query,
-        _ => Ending::Called(own_end(actor, work)),
+    match instead {
+        Instead::Fails { image } => {
+            let _ = make(alloc, h, state, number, BookStep::FailUnrouted { image });
+        }
+        Instead::Ends => end_command(alloc, h, state, number, How::NoMemory),
     }
 }
 
-/// By which note an actor's command ends.
-fn ending_for(actor: &Actor) -> Ending
-    ensures { result ≡ ending_for (actor_of actor.now) }
+/// An actor goes on with its insert, its query or its pull.
+fn go_on_at_desk(alloc: Global, h: &Hierarchy, state: &mut State, number: usize, step: BookStep)
+    requires sound { IsSound h.now state.old }
+    requires may { MayMakeBook h.now state.old number step }
+    requires instead { MayGiveWay h.now state.old number (Books step) }
+    ensures made { GoesOnWithCommand h.now (book_kind step) number state.old state.new }
 {
-    match &actor.command {
-        Some(open) => ending_of(actor, &open.work),
-        None => Ending::Called(How::Fine),
+    let instead = instead_of(&step);
+    match make(alloc, h, state, number, step) {
+        Ok(()) => {}
+        Err(_) => make_instead(alloc, h, state, number, instead),
     }
 }
 
-/// By which note the command of the actor with this number ends.
-fn ending_by(state: &State, number: usize) -> Ending
-    ensures { result ≡ ending_by state.now.actors.items number }
+/// An actor goes on with its command. Where it finds no memory the command ends so, and a balance leaves its action.
+pub(crate) fn go_on_with_work(
+    alloc: Global,
+    h: &Hierarchy,
+    with: &Use,
+    state: &mut State,
+    number: usize,
+    due: WorkDue,
+)
+    requires sound { IsSound h.now state.old }
+    requires may { IsWorkReady h.now state.old number due }
+    requires instead { MayGiveWay h.now state.old number due }
+    requires shows { MayShow h.now with.now state.old number due }
+    ensures made { GoesOnWithCommand h.now (work_due_kind due) number state.old state.new }
 {
-    match state.actors.get(number) {
-        Some(Some(actor)) => ending_for(actor),
-        _ => Ending::Called(How::Fine),
-    }
-}
-
-/// The actor's insert, whose part found no memory, ends so. Takes no memory.
-fn fail_routed(h: &Hierarchy, with: &Use, state: &mut State, number: usize)
-    requires core { HasCore h.now with.now state.old.cells.items state.old.actors.items }
-    requires within { number < length state.old.actors.items }
-    requires due { IsDue h.now with.now state.old.cells.items state.old.actors.items number Note }
-    requires own { has_own_note (command_by state.old.actors.items number) ≡ true }
-    requires insert { ending_by state.old.actors.items number ≡ Insert }
-    ensures made { GoesOnWithCommand h.now Note number state.old.cells.items state.old.actors.items state.new.cells.items state.new.actors.items }
-{
-    let server = session_server(state, number);
-    let desk = desk_place(with, server);
-    let image = image_place(server);
-    let ledger = ledger_place();
-    core_steps::fail_routed(h, state, number, desk, image, ledger);
-}
-
-/// The actor's query, of which a part found no memory, ends so. Takes no memory.
-fn fail_query(h: &Hierarchy, with: &Use, state: &mut State, number: usize)
-    requires core { HasCore h.now with.now state.old.cells.items state.old.actors.items }
-    requires within { number < length state.old.actors.items }
-    requires due { IsDue h.now with.now state.old.cells.items state.old.actors.items number Note }
-    requires own { has_own_note (command_by state.old.actors.items number) ≡ true }
-    requires query { ending_by state.old.actors.items number ≡ Query }
-    ensures made { GoesOnWithCommand h.now Note number state.old.cells.items state.old.actors.items state.new.cells.items state.new.actors.items }
-{
-    let server = session_server(state, number);
-    let desk = desk_place(with, server);
-    let ledger = ledger_place();
-    core_steps::fail_query(h, state, number, desk, ledger);
-}
-
-/// The actor's called command ends by its own note, in this way. Takes no memory.
-fn note_ended(h: &Hierarchy, with: &Use, state: &mut State, number: usize, how: How)
-    requires core { HasCore h.now with.now state.old.cells.items state.old.actors.items }
-    requires within { number < length state.old.actors.items }
-    requires due { IsDue h.now with.now state.old.cells.items state.old.actors.items number Note }
-    requires own { has_own_note (command_by state.old.actors.items number) ≡ true }
-    requires called { ending_by state.old.actors.items number ≡ Called how }
-    ensures made { GoesOnWithCommand h.now Note number state.old.cells.items state.old.actors.items state.new.cells.items state.new.actors.items }
-{
-    let _ = with;
-    core_steps::note_ended(h, state, number, ledger_place(), how);
-}
-
-/// The note is made that is due for the actor's open command, by what that is: an insert or a query for
-/// which no memory was found fails; any other command, which shows no page now and is no balance, ends.
-/// Takes no memory.
-pub(crate) fn note(h: &Hierarchy, with: &Use, state: &mut State, number: usize)
-    requires core { HasCore h.now with.now state.old.cells.items state.old.actors.items }
-    requires within { number < length state.old.actors.items }
-    requires due { IsDue h.now with.now state.old.cells.items state.old.actors.items number Note }
-    requires own { has_own_note (command_by state.old.actors.items number) ≡ true }
-    ensures made { GoesOnWithCommand h.now Note number state.old.cells.items state.old.actors.items state.new.cells.items state.new.actors.items }
-{
-    match ending_by(state, number) {
-        Ending::Insert => fail_routed(h, with, state, number),
-        Ending::Query => fail_query(h, with, state, number),
-        Ending::Called(how) => note_ended(h, with, state, number, how),
+    match due {
+        WorkDue::Takes(desk) => {
+            let _ = make(alloc, h, state, number, PartStep::TakePart { desk });
+        }
+        WorkDue::Books(step) => go_on_at_desk(alloc, h, state, number, step),
+        WorkDue::Jobs(step) => go_on_with_job(alloc, h, state, number, step),
+        WorkDue::Splits { map, gate } => {
+            let step = split_end(state, number, map, gate);
+            go_on_with_job(alloc, h, state, number, step);
+        }
+        WorkDue::Ends(how) => end_command(alloc, h, state, number, how),
+        WorkDue::Leaves => {
+            let _ = make(alloc, h, state, number, NoteStep::Left);
+        }
+        WorkDue::Shows(subject) => show_page(alloc, h, with, state, number, subject),
     }
 }

@@ -6,7 +6,8 @@ use Rattle.script_run.proofs.Whole.{get-some}
 use Rattle.script_run.specs.Places.{session_of}
 use Rattle.volap_cell.specs.{Steps.history_in, Values.actor_of, World.World}
 use Rattle.volap_cell.proofs.Cells.States.{stands}
-use Rattle.seeded_run.specs.{Due.does_nothing, Look.rests, Machine.{AloneInOrder, HasBegunTo, IsPhaseKept, WaitsAt, about_in, next_at, phase_of, world_of}, Rests.{PhaseRun, first_open}, declared.hands.FreeHands.FreeHands, declared.machine.Running.Running}
+use Rattle.core_due.specs.Due.{does_nothing}
+use Rattle.seeded_run.specs.{Look.rests, Machine.{AloneInOrder, HasBegunTo, IsPhaseKept, WaitsAt, about_in, next_at, phase_of, world_of}, Rests.{PhaseRun, first_open}, declared.hands.FreeHands.FreeHands, declared.machine.Running.Running}
 use Rattle.seeded_run.proofs.{Cursors.Firsts.{first-at, first-fails, first-some, late-not, over_in}, Cursors.Held.{none-past, some-within}, Holding.LeftAlone.{apart, is-idle, same-or-not}, Phases.PhaseRuns.{is-actor, past-over}}
 
 some-apart : (o : Option ℕ) (a b : ℕ) → o ≡ Some a → a ≢ b → o ≢ Some b

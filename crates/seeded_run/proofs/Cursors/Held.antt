@@ -4,7 +4,8 @@ use Rattle.std.specs.Prelude.{count_by, slice_get, if◌then◌else◌}
 use Rattle.script_form.specs.declared.script.Command.{Command}
 use Rattle.volap_cell.specs.{Setting.actor_count, Steps.history_in, Sums.sum_below}
 use Rattle.volap_cell.proofs.Sums.{sum-same}
-use Rattle.seeded_run.specs.{Due.is_empty, Look.{IsTold, streams_left}, Machine.{IsPhaseKept, about_in, next_at, phase_of, world_of}, Rests.{PhaseRun, rest_of}, declared.machine.Running.Running}
+use Rattle.core_due.specs.Due.{is_empty}
+use Rattle.seeded_run.specs.{Look.{IsTold, streams_left}, Machine.{IsPhaseKept, about_in, next_at, phase_of, world_of}, Rests.{PhaseRun, rest_of}, declared.machine.Running.Running}
 use Rattle.seeded_run.proofs.Cursors.Cursors.{first-law, last-law}
 
 -- a sum from the first item on

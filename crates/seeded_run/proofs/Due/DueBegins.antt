@@ -11,7 +11,8 @@ use Rattle.script_run.specs.{Phases.closes, Places.{session_of, session_of_call}
 use Rattle.volap_cell.specs.{Cells.desk_in, Commands.{MayCall, MayCallAs, server_of}, Ghost.Ghost, ImageKinds.IsFree, Invariant.InvWith, Setting.{Setting, desk_cell}, Values.{ActorValue, JobValue, actor_of}, View.view, World.World, declared.actor.Actor.Actor, declared.cell.Cell.Cell, declared.kind.Kind.Kind, declared.role.Role.Role, declared.role.Role.TheVariants.{Admin, Hand, Puller, Session}}
 use Rattle.volap_cell.specs.declared.kind.Kind.TheVariants as kind
 use Rattle.volap_cell.proofs.Cells.States.{of-it, stands}
-use Rattle.seeded_run.specs.{Commands.{IsAllowed, IsToBegin, beginning, beginning_if, may_begin}, Core.IsCore, Due.{are_known, desk_of, first_kind, is_alone, is_empty_desk, next_kind}, Progress.AreScriptRoles, Told.is_of_part}
+use Rattle.core_due.specs.Due.{desk_of, is_empty_desk}
+use Rattle.seeded_run.specs.{Commands.{IsAllowed, IsToBegin, beginning, beginning_if, may_begin}, Core.IsCore, Due.{are_known, first_kind, is_alone, next_kind}, Progress.AreScriptRoles, Told.is_of_part}
 use Rattle.seeded_run.proofs.{Due.DueCommands.{IsAtEmpty, at-empty}, Holding.LeftAlone.{IsAtCommand, at-command, next-due, off-part}, Scripts.role-is}
 
 -- Whose a command is.

@@ -13,7 +13,8 @@ use Rattle.volap_cell.specs.declared.errand.Way.TheVariants as way
 use Rattle.volap_cell.specs.declared.kind.Kind.TheVariants as kind
 use Rattle.volap_cell.specs.declared.role.Role.TheVariants as role
 use Rattle.seeded_run.proofs.{Due.Dues.all_below-at, Phases.Movers.all-from}
-use Rattle.seeded_run.specs.{Due.{actor_kind, any_below, are_known, carry_kind, command_kind, desk_of, does_nothing, due_by, first_kind, free_kind, hand_kind, is_alone, is_empty, kind_by, led_to, may_enter, next_kind, placed_kind, read_kind, row_kind, task_kind}, Running.is_closing_work, Steps.is_for_part, Told.{is_of_part, is_plain}}
+use Rattle.core_due.specs.Due.{any_below, carry_kind, desk_of, does_nothing, hand_kind, is_empty, kind_by, led_to, may_enter, placed_kind, read_kind, row_kind, task_kind}
+use Rattle.seeded_run.specs.{Due.{actor_kind, are_known, command_kind, due_by, first_kind, free_kind, is_alone, next_kind}, Running.is_closing_work, Steps.is_for_part, Told.{is_of_part, is_plain}}
 
 -- Booleans.
 

@@ -3,7 +3,8 @@ use Rattle.std.proofs.{Common.{◌≡◌, ◌∙◌, ℕ, zero, suc, ◌+◌, �
 use Rattle.std.specs.Prelude.{◌==◌, ◌&&◌, ◌||◌, if◌then◌else◌, slice_get}
 use Rattle.script_form.specs.declared.script.Command.{Command}
 use Rattle.volap_cell.specs.{Setting.{Setting, actor_count}, State.Has, Sums.sum_below, Values.{ActorValue, actor_of}, World.World, declared.actor.Actor.Actor}
-use Rattle.seeded_run.specs.{Due.{all_below, any_below, does_nothing, is_alone, is_empty}, Look.{IsTold, alone_by, others_end, rests, streams_left}}
+use Rattle.core_due.specs.Due.{all_below, any_below, does_nothing, is_empty}
+use Rattle.seeded_run.specs.{Due.is_alone, Look.{IsTold, alone_by, others_end, rests, streams_left}}
 
 -- Tests below a number.
 

@@ -1,11 +1,21 @@
 -- Later moments of a phase, and the moves between them.
-use Rattle.std.proofs.Common.{rules, not, ◌≡◌, ◌≢◌, ◌∙◌, ◌+◌, inl, ℕ, suc, Bool, true, false, Option, Some, None, is_none, List, [], ◌∷◌, ◌++◌, length, take, slice_get, refl, sym, ap, subst, arith}
+use Rattle.std.proofs.Common.{rules, not, ◌≡◌, ◌≢◌, ◌∙◌, ◌+◌, ◌<◌, inl, inr, ℕ, suc, Bool, true, false, Option, Some, None, List, [], ◌∷◌, ◌++◌, length, get_or, take, slice_get, refl, sym, ap, subst, arith}
 use Rattle.core_image.proofs.Commands.NextAction.{inside, take-more}
 use Rattle.std.specs.{Option.option_eq, Prelude.{IfOk, OnErr, Result, Ok, Err}}
-use Rattle.volap_cell.specs.{Setting.Setting, Values.actor_of, World.World, declared.actor.Actor.Actor, declared.kind.Kind.Kind}
+use Rattle.core_due.specs.{Works.work_due_kind, WorksReady.{IsInsteadReady, MayMakeJob}, declared.works.WorkDue.WorkDue}
+use Rattle.core_due.specs.declared.works.WorkDue.TheVariants.{Books, Ends, Jobs, Leaves, Shows, Splits, Takes}
+use Rattle.core_steps.specs.Steps.{IsFurther, IsSame}
+use Rattle.core_steps.specs.declared.books.BookStep.TheVariants as book
+use Rattle.core_steps.specs.declared.jobs.JobStep.TheVariants as job
+use Rattle.dim_hierarchy.specs.Dimension.{Dimension}
+use Rattle.script_form.specs.declared.script.Command.{Command}
+use Rattle.volap_cell.specs.{Setting.Setting, Values.actor_of, World.World, declared.command.Work.Work, declared.kind.Kind.Kind, declared.state.State.State}
+use Rattle.volap_cell.specs.declared.kind.Kind.TheVariants as kind
+use Rattle.volap_cell.proofs.Cells.States.{stands}
 use Rattle.volap_cell.specs.contracts.kind.KindPartialEq.TheImpl as test_of
-use Rattle.seeded_run.specs.{ByHand.{AreMoves, CannotMoveAt, HasMoved, HasMovedTo, IsLater, Moves, MovesTo, StopsAmong, StopsAmongAt}, Commands.may_begin, Due.due, Machine.{HasTurned, TakesTurn, about_in, can_in, phase_of, world_of}, Rests.PhaseRun, Steps.begins_of_one, declared.machine.Running.Running}
-use Rattle.seeded_run.proofs.{Begun.turned-then, Due.DueSteps.{no-both, none-due}, Phases.WholePhases.as-before}
+use Rattle.seeded_run.specs.{ByHand.{AreMoves, CannotMoveAt, HasMoved, HasMovedTo, IsLater, IsOfJob, Moves, MovesTo, StopsAmong, StopsAmongAt, may_find_none}, Commands.beginning, Drives.GivesWay, Due.due, Machine.{BeginsNow, HasTurned, IsDueNow, IsDueStep, IsPhaseKept, TakesTurn, about_in, can_in, next_at, phase_of, world_of}, Rests.PhaseRun, Steps.is_for_part, declared.machine.Running.Running}
+use Rattle.seeded_run.specs.declared.turn.DueStep.TheVariants.{AtWork}
+use Rattle.seeded_run.proofs.{Begun.turned-then, Due.DueBegins.beginning-is, Due.DueSteps.none-due, Goings.{has-command, work-goes, work-now}, Holding.LeftAlone.apart, Phases.Turns.{has-gone-on-with-command, to-begin}, Phases.WholePhases.as-before}
 
 pub later-then : (m x now : Running) → IsLater m x → IsLater x now → IsLater m now
 later-then m x now first then = record {
@@ -38,11 +48,61 @@ after-look m now is = record {
 pub later-turned : (m mid now : Running) (n : ℕ) → HasTurned m n mid → now ≡ record mid { begun = now.begun; first = now.first; hands = now.hands } → IsLater m now
 later-turned m mid now n turned is = (let t = turned-then m mid now n turned is in record { same = t.same; about = t.about })
 
--- A step of a kind by which no command begins begins none.
+-- The kind by which a command begins.
 
-pub never-begins : (k : Kind) → may_begin k ≡ false → (o : Option Actor) → begins_of_one o k ≡ false
-never-begins k never None = refl
-never-begins k never (Some a) = no-both (is_none (actor_of a).command) (may_begin k) never
+-- it is the one that the command tells
+pub begun-kind : (m : Running) (kept : IsPhaseKept m) (n : ℕ) → n < length m.state.actors.items → (c : Command) → slice_get m.phase.now (next_at m n) ≡ Some c → BeginsNow m n → IsDueNow m n (beginning m.h.now c)
+unfolding to-begin
+begun-kind m kept n within c at begins =
+    subst (IsDueNow m n)
+    (beginning-is m.h.now m.with m.state.cells.items m.state.actors.items (about_in m) (world_of m) kept.core n c (to-begin m kept n begins.kind begins.due c at within begins.begins)) begins.due
+
+-- Jobs that are given up.
+
+-- a step of a job that may find no memory, and whose shard is frozen, gives way to that
+instead-so : (h : List Dimension) (state : State) (n : ℕ) (work : Work) (due : WorkDue) → may_find_none (work_due_kind due) ≡ true → IsInsteadReady h state n work due → MayMakeJob h state n job.Postpone
+instead-so h state n work (Takes desk) is ready = cc
+instead-so h state n work (Books (book.BeginInsert image at measures)) is ready = cc
+instead-so h state n work (Books (book.BeginQuery desk image filter)) is ready = cc
+instead-so h state n work (Books (book.Route desk image)) is ready = cc
+instead-so h state n work (Books (book.Ack desk image)) is ready = cc
+instead-so h state n work (Books (book.Answer desk)) is ready = cc
+instead-so h state n work (Books (book.Sync image)) is ready = cc
+instead-so h state n work (Books (book.FailUnrouted image)) is ready = cc
+instead-so h state n work (Books (book.FailRouted desk image)) is ready = cc
+instead-so h state n work (Books (book.FailQuery desk)) is ready = cc
+instead-so h state n work (Jobs (job.ReadLoad map gate workers)) is ready = cc
+instead-so h state n work (Jobs (job.Freeze map gate)) is ready = cc
+instead-so h state n work (Jobs (job.Drained gate)) is ready = cc
+instead-so h state n work (Jobs (job.CollectBlock block)) is ready = ready
+instead-so h state n work (Jobs (job.CollectRow gate)) is ready = ready
+instead-so h state n work (Jobs (job.BuildTrees gate)) is ready = ready
+instead-so h state n work (Jobs (job.BuildBlock cell)) is ready = cc
+instead-so h state n work (Jobs (job.FinishSplit map gate left right)) is ready = ready
+instead-so h state n work (Jobs (job.FinishMove from to gate new)) is ready = ready
+instead-so h state n work (Jobs (job.FinishHere map gate new)) is ready = ready
+instead-so h state n work (Jobs job.Postpone) is ready = cc
+instead-so h state n work (Splits map gate) is ready = ready
+instead-so h state n work (Ends how) is ready = cc
+instead-so h state n work Leaves is ready = cc
+instead-so h state n work (Shows subject) is ready = cc
+
+pub may-give-up : (m : Running) (kept : IsPhaseKept m) (n : ℕ) (due : WorkDue) → IsDueStep m n (AtWork due) → may_find_none (work_due_kind due) ≡ true → MayMakeJob m.h.now m.state n job.Postpone
+may-give-up m kept n due is frozen =
+    let same : IsSame m.state m.state = record { cells_kept = refl; actors_kept = refl; same = λ w stays. stays } in
+    let x = stands (get_or m.state.actors.items n None) (λ a. GivesWay m.h.now m.state n due (actor_of a)) ((work-goes m kept n due is).1 m.state same).1 in
+    instead-so m.h.now m.state n (x.2).1 due frozen (x.2).3
+
+-- the actor has had its turn then
+pub has-given-up : (m : Running) (kept : IsPhaseKept m) (n : ℕ) → n < length m.state.actors.items → (due : WorkDue) → IsDueStep m n (AtWork due) → IsOfJob (work_due_kind due)
+    → (state_now : State) → IsFurther m.h.now kind.Postpone n m.state state_now → HasTurned m n (record m { state = state_now })
+has-given-up m kept n within due is of_job state_now further =
+    has-gone-on-with-command m kept n (work_due_kind due) (work-now m kept n due is).now_due state_now within (has-command m kept n due is)
+    (λ k stands part. apart (is_for_part ((world_of m).actors n).errand (work_due_kind due)) part (of_job.1 _))
+    (kind.Postpone, further, inl no-note, inr of_job.2)
+  where
+    no-note : kind.Postpone ≢ kind.Note
+    no-note e = cc
 
 -- One move.
 

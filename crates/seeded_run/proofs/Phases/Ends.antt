@@ -5,7 +5,8 @@ use Rattle.seeded_turns.proofs.Able.{able_place}
 use Rattle.seeded_turns.specs.Drawn.{able}
 use Rattle.volap_cell.specs.{Setting.{Setting, actor_count}, Steps.history_in, World.World}
 use Rattle.seeded_run.proofs.{Phases.Movers.can-law, Phases.Progress.due-law}
-use Rattle.seeded_run.specs.{Can.{can, meets}, Progress.{EndLaw, SomeCan, is_done}, Rests.{PhaseRun, rest_of}}
+use Rattle.core_due.specs.Wants.{meets}
+use Rattle.seeded_run.specs.{Can.can, Progress.{EndLaw, SomeCan, is_done}, Rests.{PhaseRun, rest_of}}
 
 -- who can do what is due can step
 can-step : (s : Setting) (p : PhaseRun) (w : World) (c : SomeCan s w (rest_of p (history_in w))) → can s p w c.due.actor ≡ true

@@ -13,7 +13,8 @@ use Rattle.script_run.specs.{Between.IsInOrder, Places.{begins_of, count_of, ses
 use Rattle.volap_cell.specs.{Commands.{MayNoteEnd, due_pull, once_shown, pulled_once}, Ghost.Ghost, ImageKinds.doing, Invariant.InvWith, Setting.Setting, Sights.IsIdle, Steps.history_in, Telling.IsProgress, Values.ActorValue, View.view, World.World, declared.command.Command.Command as OpenCommand, declared.command.Work.Work}
 use Rattle.volap_cell.specs.declared.command.Work.TheVariants as work_is
 use Rattle.seeded_run.proofs.{Holding.LeftAlone.{IsAtCommand, alone-from, alone-parts, apart, at-command, both-parts, closing-off, does-nothing, page-closing, plain-open, same-or-not, stuck, true-or, within-of}, Phases.Pulled.{deed-ends, deed-pulls, deed-right, deed-session, end-pulls-none, end-right, plain-pulled, pull-next, pulled-more, pulled-same, right-if}, Told.{others-law, told-law}}
-use Rattle.seeded_run.specs.{Can.{can, can_step}, Cursors.HasCursors, Due.{does_nothing, is_alone}, Kept.{IsTurn, KeepsOtherLaw}, Rests.{PhaseRun, first_open_behind, first_open, is_over_behind, rest_of, stream_of}, Running.{AreAtOwn, AreOthersIdle, HasPulled, IsRunning, RunsBehind, behind, is_closing_work, opened_in}, Steps.is_for_part, Told.{GoesFurther, OfBeginning, OfDeed, OfEnd, OfNothing, OfPage, OfPull, TellsDeed, TellsEnd, TellsNothing, TellsPage, TellsPull, Told, is_of_part, is_plain}}
+use Rattle.core_due.specs.Due.{does_nothing}
+use Rattle.seeded_run.specs.{Can.{can, can_step}, Cursors.HasCursors, Due.is_alone, Kept.{IsTurn, KeepsOtherLaw}, Rests.{PhaseRun, first_open_behind, first_open, is_over_behind, rest_of, stream_of}, Running.{AreAtOwn, AreOthersIdle, HasPulled, IsRunning, RunsBehind, behind, is_closing_work, opened_in}, Steps.is_for_part, Told.{GoesFurther, OfBeginning, OfDeed, OfEnd, OfNothing, OfPage, OfPull, TellsDeed, TellsEnd, TellsNothing, TellsPage, TellsPull, Told, is_of_part, is_plain}}
 use Rattle.volap_cell.proofs.OneEvent.Noted.{end-begins-none}
 
 -- Events that neither begin nor end a command.

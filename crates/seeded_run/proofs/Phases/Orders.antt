@@ -6,7 +6,8 @@ use Rattle.seeded_turns.specs.Drawn.{able}
 use Rattle.volap_cell.proofs.Sums.{sum-zero}
 use Rattle.volap_cell.specs.{Cells.active_in, Errands.way_of, Ghost.Ghost, Invariant.InvWith, Setting.{Setting, actor_count}, Steps.history_in, Turning.inside_of, Values.ErrandValue, View.view, World.World, declared.kind.Kind.Kind}
 use Rattle.seeded_run.proofs.{Due.Dues.at-part-law, Phases.Ends.no-actor, Phases.Movers.{all-from, clash, free-or-none, meets-both, no-job, undrained}, Phases.Progress.{due-or-blocked, led-known}}
-use Rattle.seeded_run.specs.{Can.{can, can_in_order, is_block_free, is_carried_at, is_drained, meets, wanted}, Due.due_by, Progress.{IsOrderedRun, IsScriptRun, OrderEndLaw}, Rests.{PhaseRun, first_open, rest_of}}
+use Rattle.core_due.specs.Wants.{is_block_free, is_carried_at, is_drained, meets, wanted}
+use Rattle.seeded_run.specs.{Can.{can, can_in_order}, Due.due_by, Progress.{IsOrderedRun, IsScriptRun, OrderEndLaw}, Rests.{PhaseRun, first_open, rest_of}}
 
 same-or : (a b : ℕ) → (a ≡ b) ⊎ (a ≢ b)
 same-or a b = grind arith

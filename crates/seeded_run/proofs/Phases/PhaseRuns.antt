@@ -8,7 +8,8 @@ use Rattle.script_run.proofs.{Between.{get-behind, none-count, order-start-law, 
 use Rattle.script_run.specs.{Between.AreFirst, Phases.closes, Places.{begins_in, begins_of, count_of, is_over_at, places, session_of}}
 use Rattle.volap_cell.specs.{Errands.taken_of, Ghost.Ghost, Invariant.InvWith, Setting.{Setting, actor_count}, Sights.IsIdle, Steps.history_in, Values.ErrandValue, View.view, World.World, declared.command.Command.Command as OpenCommand}
 use Rattle.seeded_run.proofs.{Cursors.Cursors.{cursor-law, other-first, own-first}, Cursors.Firsts.{IsFirst, first-fails, first-none, first-pass, first-some, late-not, over-at, over_in, past-place}, Holding.LeftAlone.{alone-from, apart, both-parts, does-nothing, empty-of, is-idle, same-or-not}, Phases.Ends.end-law, Phases.Orders.order-end-law, Scripts.{same-command, script-law}}
-use Rattle.seeded_run.specs.{Can.able_in, Due.{does_nothing, is_alone, is_empty}, Kept.{AreIdle, BehindBeginsLaw, BehindEndsLaw, HasBegunAll, PhaseBeginsLaw, PhaseEndsLaw, RunsLaw, StopsLaw}, Progress.{IsOrderedRun, IsScriptRun, is_done}, Rests.{PhaseRun, first_open, rest_of, stream_of}, Running.{IsRunning, behind, opened_in}}
+use Rattle.core_due.specs.Due.{does_nothing, is_empty}
+use Rattle.seeded_run.specs.{Can.able_in, Due.is_alone, Kept.{AreIdle, BehindBeginsLaw, BehindEndsLaw, HasBegunAll, PhaseBeginsLaw, PhaseEndsLaw, RunsLaw, StopsLaw}, Progress.{IsOrderedRun, IsScriptRun, is_done}, Rests.{PhaseRun, first_open, rest_of, stream_of}, Running.{IsRunning, behind, opened_in}}
 
 -- Streams by places.
 

@@ -11,7 +11,8 @@ use Rattle.volap_cell.specs.{Commands.once_shown, Desking.{IsTaken, is_on_desk},
 use Rattle.volap_cell.specs.declared.command.Work.TheVariants as work_is
 use Rattle.volap_cell.specs.declared.kind.Kind.TheVariants as kind
 use Rattle.volap_cell.specs.declared.role.Role.TheVariants as role
-use Rattle.seeded_run.specs.{Due.{actor_kind, all_below, are_known, command_kind, desk_of, does_nothing, due_by, first_kind, free_kind, is_alone, is_empty, kind_at_empty, kind_by_verdict, led_to, next_kind, page_kind, parts_kind, work_kind}, Progress.{DueLaw, IsScriptRun, SomeDue, is_done}}
+use Rattle.core_due.specs.Due.{all_below, desk_of, does_nothing, is_empty, kind_at_empty, kind_by_verdict, led_to, page_kind, parts_kind, work_kind}
+use Rattle.seeded_run.specs.{Due.{actor_kind, are_known, command_kind, due_by, first_kind, free_kind, is_alone, next_kind}, Progress.{DueLaw, IsScriptRun, SomeDue, is_done}}
 use Rattle.seeded_run.proofs.Due.Dues.{at-part-law}
 
 and-three : (a b c : Bool) → (a && b && c) ≡ true → (a ≡ true) × (b ≡ true) × (c ≡ true)

@@ -1,17 +1,18 @@
 -- What an actor's step is as a turn of a phase, and what holds behind it.
-use Rattle.std.proofs.Common.{◌≡◌, ◌≢◌, ◌∙◌, ◌<◌, ◌≤◌, ◌⊎◌, inl, inr, ℕ, suc, Bool, true, false, List, [], ◌∷◌, length, get_or, Option, Some, None, is_some, is_none, refl, sym, ap, subst, arith, eqb-true, ◌==◌}
+use Rattle.std.proofs.Common.{◌≡◌, ◌≢◌, ◌∙◌, ◌<◌, ◌≤◌, ◌⊎◌, inl, inr, ℕ, suc, Bool, true, false, List, [], ◌∷◌, length, get_or, Option, Some, None, is_none, refl, sym, ap, subst, arith, eqb-true, ◌==◌}
 use Rattle.std.specs.{Option.option_map_or, Prelude.slice_get}
 use Rattle.row_ledger.specs.{Past.session_in, declared.event.Event.Event, declared.settings.Use.Use}
-use Rattle.core_steps.specs.Ready.{Stays}
+use Rattle.core_steps.specs.Steps.{IsFurther, IsSame}
 use Rattle.row_ledger.specs.declared.event.Event.TheVariants as event
 use Rattle.dim_hierarchy.specs.Dimension.{Dimension}
 use Rattle.script_form.specs.declared.script.Command.{Command}
 use Rattle.script_form.specs.declared.script.Command.TheVariants as script
 use Rattle.script_run.specs.{Places.{begins_of, session_of}, Runs.Begins}
-use Rattle.volap_cell.specs.{Setting.{Setting, actor_count}, State.{IsWorldOf, Stepped}, Steps.{Step, history_in}, Values.{ActorValue, actor_of}, World.World, declared.actor.Actor.Actor, declared.cell.Cell.Cell, declared.command.Command.Command as OpenCommand, declared.kind.Kind.Kind, declared.kind.Kind.TheVariants.Note, declared.state.State.State}
+use Rattle.volap_cell.specs.{Setting.{Setting, actor_count}, State.Stepped, Steps.{Step, history_in}, Values.{ActorValue, actor_of}, World.World, declared.actor.Actor.Actor, declared.cell.Cell.Cell, declared.command.Command.Command as OpenCommand, declared.kind.Kind.Kind, declared.kind.Kind.TheVariants.Note, declared.state.State.State}
 use Rattle.volap_cell.proofs.Cells.States.{is-some, stands}
-use Rattle.seeded_run.specs.{Arms.TellsIfNote, Can.{can, can_step, meets}, Commands.{GoesBy, IsBegunBy, IsNextAt, IsToBegin, may_begin}, Core.{IsCore, IsDue, IsDueAt}, Due.{does_nothing, due}, Hands.IsFreeHand, Instead.StandsFor, Kept.{IsTurn, MovesOn}, Machine.{AloneInOrder, HasLeftOver, HasMovedOn, HasTurned, IsDueNow, IsPhaseHeld, IsPhaseKept, KnowsHands, KnowsOtherHands, RestsAsIs, about_in, next_at, phase_of, world_of}, Measure.BeginInTurn, Phase.most_actors, Rests.{PhaseRun, first_open, rest_of}, Running.{IsRunning, RunsBehind}, Steps.{HasCommand, begins_by, begins_of_one, is_for_part}, Told.is_of_part, Works.{command_by, command_of_one}, Worlds.{setting_in, world_in}, declared.machine.Running.Running}
-use Rattle.seeded_run.proofs.{Begins.{keeps-beginning-law, quiet-law}, Counted.counted-law, Cursors.Held.rest-some, Fallbacks.still-is, Holding.LeftAlone.{apart, both-parts, same-or-not}, Phases.Keeps.keeps-other-law, Phases.Measure.fewer-law, Told.others-law, Worlds.{one-setting, only-world}}
+use Rattle.core_due.specs.{Due.does_nothing, Wants.meets}
+use Rattle.seeded_run.specs.{Arms.{GoesOnAtPart, GoesOnWithCommand, TellsIfNote}, Can.{can, can_step}, Commands.{GoesBy, IsBegunBy, IsNextAt, IsToBegin, may_begin}, Core.IsCore, Due.due, Hands.IsFreeHand, Instead.StandsFor, Kept.{IsTurn, MovesOn}, Machine.{AloneInOrder, HasLeftOver, HasMovedOn, HasTurned, IsDueNow, IsPhaseHeld, IsPhaseKept, KnowsHands, KnowsOtherHands, RestsAsIs, about_in, next_at, phase_of, world_of}, Measure.BeginInTurn, Phase.most_actors, Rests.{PhaseRun, first_open, rest_of}, Running.{IsRunning, RunsBehind}, Steps.{begins_by, begins_of_one, is_for_part}, Told.is_of_part, Worlds.{setting_in, world_in}, declared.machine.Running.Running}
+use Rattle.seeded_run.proofs.{Begins.{keeps-beginning-law, quiet-law}, Counted.counted-law, Cursors.Held.rest-some, Holding.LeftAlone.{apart, both-parts, same-or-not}, Phases.Keeps.keeps-other-law, Phases.Measure.fewer-law, States.same-core, Told.others-law, Worlds.{one-setting, only-world}}
 
 -- the core that stands behind a step
 pub core-then : (h : List Dimension) (with : Use) (cells cells_now : List (Option Cell)) (actors actors_now : List (Option Actor)) (s : Setting) (w : World) (k : Kind) (n : ℕ)
@@ -79,12 +80,6 @@ begins-session with h past (script.Control called) (event.Left of shard how) b =
 begins-session with h past (script.Control called) (event.Shown of page) b = absurd b
 begins-session with h past (script.Control called) (event.Ended of how) b = absurd b
 
--- an actor's command, as it stands in the vector
-pub command-seen : (cells : List (Option Cell)) (actors : List (Option Actor)) (w : World) (n : ℕ) → IsWorldOf cells actors w → n < length actors → command_by actors n ≡ (w.actors n).command
-command-seen cells actors w n is within =
-    let k = stands (get_or actors n None) (λ x. actor_of x ≡ w.actors n) (is.actor n within) in
-    ap command_of_one k.1 ∙ ap (λ (a : ActorValue). a.command) k.2
-
 some-is : (o : Option Kind) (k : Kind) (test : Kind → Bool) → o ≡ Some k → option_map_or test o false ≡ true → test k ≡ true
 some-is None k test is e = cc
 some-is (Some x) k test is e = let same : x ≡ k = cc in ap test (sym same) ∙ e
@@ -111,14 +106,8 @@ module _ (m : Running) (kept : IsPhaseKept m) (n : ℕ) (due_kind : Kind) (now_d
   can-now false e = e
   can-now true e = (both-parts (option_map_or (λ first. first == n) (first_open p (history_in w)) false) (can s p w n) e).1
 
-  meets-it : meets s w n due_kind ≡ true
+  pub meets-it : meets s w n due_kind ≡ true
   meets-it = some-is (due s p w n) due_kind (meets s w n) now_due.due_is (can-now m.in_order now_due.can)
-
-  pub is-due : IsDue m.h.now m.with m.state.cells.items m.state.actors.items n due_kind
-  is-due = λ t x core.
-      let here : IsDueAt s w n due_kind = record { rest = rest_of p (history_in w); due_is = now_due.due_is; meets_it = meets-it } in
-      subst (λ (y : World). IsDueAt t y n due_kind) (sym (only-world m.h.now m.with m.state.cells.items m.state.actors.items t x core))
-      (subst (λ (z : Setting). IsDueAt z w n due_kind) (sym (one-setting m.h.now m.with m.state.cells.items m.state.actors.items t x core)) here)
 
   pub is-next : (c : Command) → slice_get m.phase.now (next_at m n) ≡ Some c → (t : Setting) (x : World) → IsCore m.h.now m.with m.state.cells.items m.state.actors.items t x → IsNextAt t x n c due_kind
   is-next c at = λ t x core.
@@ -161,7 +150,7 @@ module _ (m : Running) (kept : IsPhaseKept m) (n : ℕ) (due_kind : Kind) (now_d
       kept.is_running.idle order a (some-apart (first_open p (history_in w)) n a first (λ same. differs (sym same)))
 
   -- A step that begins nothing.
-  module _ (state_now : State) (k : Kind) (stepped : Stepped m.h.now k n m.state.cells.items m.state.actors.items state_now.cells.items state_now.actors.items)
+  module _ (state_now : State) (k : Kind) (stepped : IsFurther m.h.now k n m.state state_now)
       (within : n < length m.state.actors.items) (of_part : is_for_part (w.actors n).errand due_kind ≡ true → is_of_part k ≡ true) (stands : StandsFor due_kind k) where
     after : (x : World) × IsCore m.h.now m.with state_now.cells.items state_now.actors.items s x × Step s k n w x
     after = core-then m.h.now m.with m.state.cells.items state_now.cells.items m.state.actors.items state_now.actors.items s w k n kept.core stepped
@@ -236,20 +225,18 @@ module _ (m : Running) (kept : IsPhaseKept m) (n : ℕ) (due_kind : Kind) (now_d
       }
 
     -- of a part or a purse
-    pub has-gone-on-at-part : is_of_part k ≡ true → HasTurned m n (record m { state = state_now })
-    has-gone-on-at-part part =
+    went-at-part : is_of_part k ≡ true → HasTurned m n (record m { state = state_now })
+    went-at-part part =
         has-gone-on (quiet-law s k n w world_now kept.core.inv.ghost_of core-now.inv.ghost_of kept.core.inv.holds core-now.inv.holds step (λ none. part))
         (counted-law s k n w world_now step (inl (λ note. apart (is_of_part k) part (ap is_of_part note))))
 
     -- of a command
-    pub has-gone-on-with-command : HasCommand m.state.actors.items n → TellsIfNote k m.state.cells.items m.state.actors.items state_now.cells.items state_now.actors.items → HasTurned m n (record m { state = state_now })
-    has-gone-on-with-command has tells =
-        has-gone-on (quiet-law s k n w world_now kept.core.inv.ghost_of core-now.inv.ghost_of kept.core.inv.holds core-now.inv.holds step
-        (λ none. apart (is_some (command_by m.state.actors.items n)) has (ap is_some (command-seen m.state.cells.items m.state.actors.items w n kept.core.is within ∙ none))))
+    went-with-command : (w.actors n).command ≢ None → TellsIfNote k m.state state_now → HasTurned m n (record m { state = state_now })
+    went-with-command has tells =
+        has-gone-on (quiet-law s k n w world_now kept.core.inv.ghost_of core-now.inv.ghost_of kept.core.inv.holds core-now.inv.holds step (λ none. absurd (has none)))
         (counted-law s k n w world_now step (told tells))
       where
-        told : TellsIfNote k m.state.cells.items m.state.actors.items state_now.cells.items state_now.actors.items
-            → (k ≢ Note) ⊎ (history_in world_now ≢ history_in w) ⊎ ((world_now.actors n).command ≢ (w.actors n).command)
+        told : TellsIfNote k m.state state_now → (k ≢ Note) ⊎ (history_in world_now ≢ history_in w) ⊎ ((world_now.actors n).command ≢ (w.actors n).command)
         told (inl other) = inl other
         told (inr longer) = inr (inl (longer w world_now kept.core.is core-now.is))
 
@@ -352,15 +339,25 @@ module _ (m : Running) (kept : IsPhaseKept m) (n : ℕ) (due_kind : Kind) (now_d
       pub has-begun : HasTurned m n now
       has-begun = subst (λ (x : Running). HasTurned m n x) (sym has_moved.only) turned-mid
 
+  -- Where the actor has gone on with its part or its purse, or with its command, it has had its turn.
+  module _ (state_now : State) (within : n < length m.state.actors.items) where
+    pub has-gone-on-at-part : GoesOnAtPart m.h.now due_kind n m.state state_now → HasTurned m n (record m { state = state_now })
+    has-gone-on-at-part made = went-at-part state_now made.0 made.2 within (λ is. made.1) made.3 made.1
+
+    -- whatever is made where a part is due is of a part
+    pub has-gone-on-with-command : (w.actors n).command ≢ None → ((k : Kind) → StandsFor due_kind k → is_for_part (w.actors n).errand due_kind ≡ true → is_of_part k ≡ true)
+        → GoesOnWithCommand m.h.now due_kind n m.state state_now → HasTurned m n (record m { state = state_now })
+    has-gone-on-with-command has of_part made = went-with-command state_now made.0 made.1 within (of_part made.0 made.3) made.3 has made.2
+
 -- Where a beginning found no memory, the same holds as before.
-pub rests-held : (m : Running) → IsPhaseHeld m → (state_now : State) → Stays m.state.cells.items m.state.actors.items state_now.cells.items state_now.actors.items
+pub rests-held : (m : Running) → IsPhaseHeld m → (state_now : State) → IsSame m.state state_now
     → IsPhaseHeld (record m { state = state_now }) × RestsAsIs m (record m { state = state_now })
-rests-held m held state_now stays =
+rests-held m held state_now same =
     let kept = held.kept in
     let first = held.first in
     let s = about_in m in
     let w = world_of m in
-    let core = still-is m.h.now m.with m.state.cells.items state_now.cells.items m.state.actors.items state_now.actors.items s w kept.core stays in
+    let core = same-core m.h.now m.with m.state state_now s w same kept.core in
     let about = one-setting m.h.now m.with state_now.cells.items state_now.actors.items s w core in
     let world = only-world m.h.now m.with state_now.cells.items state_now.actors.items s w core in (
       record {
@@ -372,14 +369,14 @@ rests-held m held state_now stays =
               (subst (λ (z : Setting). IsRunning m.in_order z (phase_of m) w (next_at m)) about kept.is_running);
           behind = λ done through. subst (λ (x : World). RunsBehind m.in_order (setting_in m.h.now m.with state_now.actors.items) (phase_of m) done x (next_at m)) world
               (subst (λ (z : Setting). RunsBehind m.in_order z (phase_of m) done w (next_at m)) about (kept.behind done through));
-          count = kept.count ∙ sym stays.actors_kept;
+          count = kept.count ∙ sym same.actors_kept;
           few = kept.few;
           within = kept.within;
           left = kept.left;
           begun = kept.begun;
         };
         first = λ order. ap (λ (x : World). first_open (phase_of m) (history_in x)) (sym world) ∙ first order;
-        hands = λ a worker low told. subst (λ (x : World). IsFreeHand (x.actors a) worker) world (held.hands a worker (subst (λ (c : ℕ). a < c) stays.actors_kept low) told);
+        hands = λ a worker low told. subst (λ (x : World). IsFreeHand (x.actors a) worker) world (held.hands a worker (subst (λ (c : ℕ). a < c) same.actors_kept low) told);
       },
-      record { same = record { h = refl; with = refl; phase = refl; in_order = refl; before = refl; count = refl }; state = stays; about = sym about; world = sym world },
+      record { same = record { h = refl; with = refl; phase = refl; in_order = refl; before = refl; count = refl }; state = same; about = sym about; world = sym world },
     )

@@ -1,145 +1,169 @@
--- Where the beginning of a command is due, the core has what its kind asks; and what the kind tells is that beginning.
-use Rattle.std.proofs.Common.{ℕ, ℤ, ◌≡◌, ◌<◌, true, false, List, [], ◌∷◌, length, Option, Some, None, get_or, position, refl, sym, ap, ◌∙◌, subst, arith}
-use Rattle.std.specs.Prelude.{is_none}
+-- Where the beginning of a command is due, the state has what its step asks; and what the step tells is that beginning.
+use Rattle.std.proofs.{Common.{ℕ, ℤ, ◌≡◌, ◌<◌, true, false, List, ◌∷◌, length, Option, Some, None, get_or, position, refl, sym, ap, ◌∙◌, subst}, lemmas.Option.get_or_from_slice_get}
+use Rattle.std.specs.{List.slice_index_or, Prelude.{⊤, is_none}}
+use Rattle.core_due.specs.{Ready.IsStateOf, WorksReady.{IsBookAsked, MayMakeBook}}
+use Rattle.core_due.proofs.{BooksHeld.{book-prepared, hold-ledger}, Holding.{CanHoldAll, hold-two, prepared}, InStates.may-make}
 use Rattle.core_image.specs.{Asking.CanBeginQuery, NotesDue.{CanBeginInsert, CanNoteAsking, CanNoteCalled, CanNoteRefused, CanNoteUnknown}, Told.{asked_by, begun_by, called_by, refused_by, unknown_by}}
-use Rattle.core_steps.specs.{Added.Adds, AskedBooks.{BeginsInsert, BeginsQuery}, AskedNotes.{NotesAsking, NotesCalled, NotesRefused, NotesUnknown}, Ready.{MayStep, Stays}}
-use Rattle.dim_hierarchy.specs.{Dimension.Dimension, Filter.{IsFilterNamed, picks}, Row.IsCoordNamed, declared.filter.Pick.Pick, declared.row.Coord.Coord}
+use Rattle.core_steps.specs.{Books.{book_asks, book_places}, Places.{numbers, one_at, two_at, values_at}, Steps.{IsSame, MayMake}, declared.books.BookStep.BookStep}
+use Rattle.core_steps.specs.declared.books.BookStep.TheVariants as book
+use Rattle.dim_hierarchy.specs.{Dimension.Dimension, Filter.{IsFilterNamed, IsFilterOf, picks}, Row.{IsCoordNamed, IsCoordOf}, declared.filter.Pick.Pick, declared.row.Coord.Coord}
 use Rattle.row_ledger.specs.{Classes.class_of, declared.event.Event.Event, declared.settings.Call.Call, declared.settings.Use.Use}
 use Rattle.script_form.specs.{declared.script.Command.Command, declared.script.NewRow.NewRow, declared.script.Question.Question}
 use Rattle.script_form.specs.declared.script.Command.TheVariants as script
 use Rattle.script_run.specs.{Places.session_of, Runs.{Begins, first_unknown}}
-use Rattle.volap_cell.specs.{Commands.{MayCall, server_of}, ImageKinds.asks_registry, Setting.{Setting, desk_cell, image_cell, ledger_cell, registry_cell}, Steps.history_in, Values.{ActorValue, actor_of}, World.World, declared.actor.Actor.Actor, declared.cell.Cell.Cell}
+use Rattle.volap_cell.specs.{Cells.{CellValue, TheLedger, TheRegistry, tag_of}, Commands.{MayCall, server_of}, ImageKinds.asks_registry, Numbering.{IsRoleOf, tag_at}, Setting.{Setting, actor_count, desk_cell, image_cell, ledger_cell, registry_cell}, State.IsWorldOf, Steps.history_in, Values.{ActorValue, actor_of}, World.World, declared.role.Role.TheVariants.Session, declared.state.State.State}
 use Rattle.volap_cell.proofs.{Cells.Numbers.{tag-desk, tag-image}, Cells.States.{is-some, of-it, stands}}
 use Rattle.seeded_run.specs.{Commands.{GoesBy, IsAllowedCall, IsNextAt, IsToBegin, may_be_refused}, Core.{HasCore, IsCore}, Due.are_known}
-use Rattle.seeded_run.proofs.{Afterwards.core-stays, Due.DueBegins.{IsAtNext, at-next, may-call, no-server, role_for}, Holding.CommandsHeld.IsDeskPlace, Holding.FixedCells.{desk-fixed, image-fixed, ledger-fixed, may-step, registry-fixed, server-within, tag-is}, Worlds.{one-setting, only-world}}
+use Rattle.seeded_run.proofs.{Due.DueBegins.{IsAtNext, at-next, may-call, no-server, role_for}, States.{same-core, state-of}, Worlds.{one-setting, only-world}}
 
-module _ (h : List Dimension) (with : Use) (cells : List (Option Cell)) (actors : List (Option Actor)) (core : HasCore h with cells actors) (n : ℕ) where
+module _ (h : List Dimension) (with : Use) (state : State) (core : HasCore h with state.cells.items state.actors.items) (n : ℕ) where
   abbrev s : Setting
   s = core.setting
 
   abbrev w : World
   w = core.world
 
-  next-at : (c : Command) → IsToBegin h with cells actors n c → IsAtNext s w n c
-  next-at c b = at-next h with cells actors s w core.is_core n c b
+  of : IsStateOf h with state s w
+  of = state-of h with state s w core.is_core
 
-  -- What the kinds ask.
+  next-at : (c : Command) → IsToBegin h with state.cells.items state.actors.items n c → IsAtNext s w n c
+  next-at c b = at-next h with state.cells.items state.actors.items s w core.is_core n c b
 
-  pub insert-ready : (new : NewRow) → IsToBegin h with cells actors n (script.Insert new) → (at : Coord) → IsCoordNamed h new.names at → (image ledger : ℕ) → image ≡ image_cell new.server → ledger ≡ ledger_cell
-      → MayStep cells actors (image ∷ ledger ∷ []) n (BeginsInsert h at)
-  insert-ready new b at named image ledger image_is ledger_is =
+  there : (c : Command) → IsToBegin h with state.cells.items state.actors.items n c → n < actor_count s
+  there c b = subst (λ (k : ℕ). n < k) core.is_core.count b.within
+
+  server-within : n < actor_count s → (server : ℕ) → (w.actors n).role ≡ Session server → server < s.servers
+  server-within lt server role =
+      let at : slice_index_or s.roles n (Session server) ≡ Session server = get_or_from_slice_get s.roles n (w.actors n).role (Session server) (core.is_core.inv.holds.numbering.role n lt) ∙ role in
+      subst (IsRoleOf s) at (core.is_core.inv.holds.numbering.setting.roles n (Session server) lt)
+
+  tag-is : (y : ℕ) → tag_of (w.cells y) ≡ tag_at s y
+  tag-is y = core.is_core.inv.holds.numbering.tag y
+
+  -- At an image or a desk.
+
+  book-may : n < actor_count s → (step : BookStep) → IsBookAsked s w n step → MayMakeBook h state n step
+  book-may lt step asked = may-make h with state s w of n (book_places step) (book_asks step) ⊤ (book-prepared s w core.is_core.inv n lt step asked) tt
+
+  pub insert-may : (new : NewRow) → IsToBegin h with state.cells.items state.actors.items n (script.Insert new) → (at : Coord) → IsCoordNamed h new.names at → (measures : ℤ) (image : ℕ) → image ≡ image_cell new.server
+      → MayMakeBook h state n (book.BeginInsert image at measures)
+  insert-may new b at named measures image image_is =
       let x = next-at (script.Insert new) b in
-      let low : new.server < s.servers = server-within h with cells actors s w core.is_core n new.server b.within x.role in
-      let can : CanBeginInsert h at (w.cells (image_cell new.server)) (w.cells ledger_cell) (w.actors n) = record {
+      let lt = there (script.Insert new) b in
+      let low : new.server < s.servers = server-within lt new.server x.role in
+      let can : CanBeginInsert s.hierarchy at (w.cells (image_cell new.server)) (w.cells ledger_cell) (w.actors n) = record {
         free = x.free;
         server = new.server;
         role = x.role;
-        image_is = tag-is h with cells actors s w core.is_core (image_cell new.server) ∙ tag-image s new.server low;
-        ledger_is = tag-is h with cells actors s w core.is_core ledger_cell;
-        coord = named.valid;
+        image_is = tag-is (image_cell new.server) ∙ tag-image s new.server low;
+        ledger_is = tag-is ledger_cell;
+        coord = subst (λ (g : List Dimension). IsCoordOf g at) (sym core.is_core.hierarchy) named.valid;
       } in
-      subst (λ (i : ℕ). MayStep cells actors (i ∷ ledger ∷ []) n (BeginsInsert h at)) (sym image_is)
-      (subst (λ (l : ℕ). MayStep cells actors (image_cell new.server ∷ l ∷ []) n (BeginsInsert h at)) (sym ledger_is)
-      (may-step h with cells actors s w core.is_core (image_cell new.server ∷ ledger_cell ∷ []) n (BeginsInsert h at) (image-fixed s new.server low, (ledger-fixed s, tt))
-      (((λ e. absurd (omega arith)), tt), (tt, tt)) b.within can))
+      subst (λ (i : ℕ). MayMakeBook h state n (book.BeginInsert i at measures)) (sym image_is) (book-may lt (book.BeginInsert (image_cell new.server) at measures) can)
 
-  pub query-ready : (question : Question) → IsToBegin h with cells actors n (script.Query question) → (filter : List Pick) → IsFilterNamed h question.filter filter → position is_none (picks h question.filter) ≡ None
-      → (desk image ledger : ℕ) → IsDeskPlace with desk question.server → image ≡ image_cell question.server → ledger ≡ ledger_cell → MayStep cells actors (desk ∷ image ∷ ledger ∷ []) n (BeginsQuery h filter)
-  query-ready question b filter named none desk image ledger desk_is image_is ledger_is =
+  pub query-may : (question : Question) → IsToBegin h with state.cells.items state.actors.items n (script.Query question) → (filter : List Pick) → IsFilterNamed h question.filter filter → position is_none (picks h question.filter) ≡ None
+      → (desk image : ℕ) → ((t : Setting) → t.servers ≡ with.servers → desk ≡ desk_cell t question.server) → image ≡ image_cell question.server → MayMakeBook h state n (book.BeginQuery desk image filter)
+  query-may question b filter named none desk image desk_is image_is =
       let y = question.server in
       let x = next-at (script.Query question) b in
-      let low : y < s.servers = server-within h with cells actors s w core.is_core n y b.within x.role in
+      let lt = there (script.Query question) b in
+      let low : y < s.servers = server-within lt y x.role in
       let known : are_known s.hierarchy (script.Query question) ≡ true = ap (λ (d : List Dimension). are_known d (script.Query question)) core.is_core.hierarchy ∙ ap is_none none in
-      let can : CanBeginQuery h (w.cells (desk_cell s y)) (w.cells (image_cell y)) (w.cells ledger_cell) (w.actors n) filter = record {
+      let can : CanBeginQuery s.hierarchy (w.cells (desk_cell s y)) (w.cells (image_cell y)) (w.cells ledger_cell) (w.actors n) filter = record {
         free = x.free;
         server = y;
         role = x.role;
-        valid = named.valid;
-        dims = b.allowed.1;
-        desk_is = tag-is h with cells actors s w core.is_core (desk_cell s y) ∙ tag-desk s y low;
+        valid = subst (λ (g : List Dimension). IsFilterOf g filter) (sym core.is_core.hierarchy) named.valid;
+        dims = subst (λ (g : List Dimension). 0 < length g) (sym core.is_core.hierarchy) b.allowed.1;
+        desk_is = tag-is (desk_cell s y) ∙ tag-desk s y low;
         empty = x.empty question refl known;
-        image_is = tag-is h with cells actors s w core.is_core (image_cell y) ∙ tag-image s y low;
-        ledger_is = tag-is h with cells actors s w core.is_core ledger_cell;
+        image_is = tag-is (image_cell y) ∙ tag-image s y low;
+        ledger_is = tag-is ledger_cell;
       } in
-      subst (λ (d : ℕ). MayStep cells actors (d ∷ image ∷ ledger ∷ []) n (BeginsQuery h filter)) (sym (desk_is s core.is_core.servers))
-      (subst (λ (i : ℕ). MayStep cells actors (desk_cell s y ∷ i ∷ ledger ∷ []) n (BeginsQuery h filter)) (sym image_is)
-      (subst (λ (l : ℕ). MayStep cells actors (desk_cell s y ∷ image_cell y ∷ l ∷ []) n (BeginsQuery h filter)) (sym ledger_is)
-      (may-step h with cells actors s w core.is_core (desk_cell s y ∷ image_cell y ∷ ledger_cell ∷ []) n (BeginsQuery h filter) (desk-fixed s y low, (image-fixed s y low, (ledger-fixed s, tt)))
-      (((λ e. absurd (omega arith)), ((λ e. absurd (omega arith)), tt)), (((λ e. absurd (omega arith)), tt), (tt, tt))) b.within can)))
+      subst (λ (d : ℕ). MayMakeBook h state n (book.BeginQuery d image filter)) (sym (desk_is s core.is_core.servers))
+      (subst (λ (i : ℕ). MayMakeBook h state n (book.BeginQuery (desk_cell s y) i filter)) (sym image_is) (book-may lt (book.BeginQuery (desk_cell s y) (image_cell y) filter) can))
 
-  -- of the ledger alone
-  with-ledger : n < length actors → (Can : List _ → ActorValue → Type 0) → (ledger : ℕ) → ledger ≡ ledger_cell → Can (w.cells ledger_cell ∷ []) (w.actors n) → MayStep cells actors (ledger ∷ []) n Can
-  with-ledger lt Can ledger ledger_is can =
-      subst (λ (l : ℕ). MayStep cells actors (l ∷ []) n Can) (sym ledger_is)
-      (may-step h with cells actors s w core.is_core (ledger_cell ∷ []) n Can (ledger-fixed s, tt) (tt, tt) lt can)
+  -- In the ledger.
 
-  pub unknown-ready : (c : Command) → IsToBegin h with cells actors n c → (ledger : ℕ) → ledger ≡ ledger_cell → MayStep cells actors (ledger ∷ []) n NotesUnknown
-  unknown-ready c b ledger ledger_is =
-      let can : CanNoteUnknown (w.cells ledger_cell) (w.actors n) = record { free = (next-at c b).free; ledger_is = tag-is h with cells actors s w core.is_core ledger_cell } in
-      with-ledger b.within NotesUnknown ledger ledger_is can
+  note-may : n < actor_count s → (row : List (Option ℕ)) (Asks : List Dimension → List (Option CellValue) → ActorValue → Type 0) → CanHoldAll s w n (numbers row) → Asks s.hierarchy (values_at w.cells row) (w.actors n)
+      → MayMake h state n row (Asks h) (λ t v m. ⊤)
+  note-may lt row Asks held asked = may-make h with state s w of n row Asks ⊤ (prepared s w core.is_core.inv n row (Asks s.hierarchy) lt held asked) tt
 
-  pub refused-ready : (c : Command) → IsToBegin h with cells actors n c → (ledger : ℕ) → ledger ≡ ledger_cell → MayStep cells actors (ledger ∷ []) n NotesRefused
-  refused-ready c b ledger ledger_is =
-      let can : CanNoteRefused (w.cells ledger_cell) (w.actors n) = record { free = (next-at c b).free; ledger_is = tag-is h with cells actors s w core.is_core ledger_cell } in
-      with-ledger b.within NotesRefused ledger ledger_is can
+  -- a note that asks this of the ledger alone
+  pub noting : (c : Command) → IsToBegin h with state.cells.items state.actors.items n c → (Asks : List Dimension → List (Option CellValue) → ActorValue → Type 0) → Asks s.hierarchy (values_at w.cells (one_at ledger_cell)) (w.actors n)
+      → MayMake h state n (one_at ledger_cell) (Asks h) (λ t v m. ⊤)
+  noting c b Asks asked = note-may (there c b) (one_at ledger_cell) Asks (hold-ledger s w core.is_core.inv n) asked
 
-  pub called-ready : (called : Call) → IsToBegin h with cells actors n (script.Control called) → asks_registry (class_of called) ≡ false → (ledger : ℕ) → ledger ≡ ledger_cell → MayStep cells actors (ledger ∷ []) n (NotesCalled called)
-  called-ready called b alone ledger ledger_is =
+  -- or of the registry too
+  pub noting-both : (c : Command) → IsToBegin h with state.cells.items state.actors.items n c → (Asks : List Dimension → List (Option CellValue) → ActorValue → Type 0) → Asks s.hierarchy (values_at w.cells (two_at registry_cell ledger_cell)) (w.actors n)
+      → MayMake h state n (two_at registry_cell ledger_cell) (Asks h) (λ t v m. ⊤)
+  noting-both c b Asks asked =
+      note-may (there c b) (two_at registry_cell ledger_cell) Asks
+      (hold-two s w core.is_core.inv n registry_cell ledger_cell TheRegistry TheLedger (tag-is registry_cell) (tag-is ledger_cell) (λ e. cc) (λ e. cc) (λ e. cc)) asked
+
+  pub unknown-asked : (c : Command) → IsToBegin h with state.cells.items state.actors.items n c → CanNoteUnknown (w.cells ledger_cell) (w.actors n)
+  unknown-asked c b = record { free = (next-at c b).free; ledger_is = tag-is ledger_cell }
+
+  pub refused-asked : (c : Command) → IsToBegin h with state.cells.items state.actors.items n c → CanNoteRefused (w.cells ledger_cell) (w.actors n)
+  refused-asked c b = record { free = (next-at c b).free; ledger_is = tag-is ledger_cell }
+
+  pub called-asked : (called : Call) → IsToBegin h with state.cells.items state.actors.items n (script.Control called) → asks_registry (class_of called) ≡ false → CanNoteCalled called (w.cells ledger_cell) (w.actors n)
+  called-asked called b alone =
       let x = next-at (script.Control called) b in
       let about : s.servers ≡ (w.actors n).setting.servers = ap (λ (z : Setting). z.servers) (sym (core.is_core.inv.holds.numbering.about n)) in
-      let can : CanNoteCalled called (w.cells ledger_cell) (w.actors n) = record {
+      record {
         free = x.free;
         allowed = subst (λ r. MayCall r called) (sym x.role) (may-call called);
         alone = alone;
         server = λ y is. subst (λ (m : ℕ). y < m) (sym core.is_core.servers ∙ about) (subst (IsAllowedCall with) is b.allowed);
-        ledger_is = tag-is h with cells actors s w core.is_core ledger_cell;
-      } in
-      with-ledger b.within (NotesCalled called) ledger ledger_is can
+        ledger_is = tag-is ledger_cell;
+      }
 
-  pub asking-ready : (called : Call) → IsToBegin h with cells actors n (script.Control called) → asks_registry (class_of called) ≡ true → (registry ledger : ℕ) → registry ≡ registry_cell → ledger ≡ ledger_cell
-      → MayStep cells actors (registry ∷ ledger ∷ []) n (NotesAsking called with.workers)
-  asking-ready called b asks registry ledger registry_is ledger_is =
+  pub asking-asked : (called : Call) → IsToBegin h with state.cells.items state.actors.items n (script.Control called) → asks_registry (class_of called) ≡ true → CanNoteAsking called with.workers (w.cells registry_cell) (w.cells ledger_cell) (w.actors n)
+  asking-asked called b asks =
       let x = next-at (script.Control called) b in
-      let can : CanNoteAsking called with.workers (w.cells registry_cell) (w.cells ledger_cell) (w.actors n) = record {
+      record {
         free = x.free;
         spares = x.purse;
         allowed = subst (λ r. MayCall r called) (sym x.role) (may-call called);
         asks = asks;
         workers_are = sym core.is_core.workers ∙ ap (λ (z : Setting). z.workers) (sym (core.is_core.inv.holds.numbering.about n));
-        registry_is = tag-is h with cells actors s w core.is_core registry_cell;
-        ledger_is = tag-is h with cells actors s w core.is_core ledger_cell;
-      } in
-      subst (λ (r : ℕ). MayStep cells actors (r ∷ ledger ∷ []) n (NotesAsking called with.workers)) (sym registry_is)
-      (subst (λ (l : ℕ). MayStep cells actors (registry_cell ∷ l ∷ []) n (NotesAsking called with.workers)) (sym ledger_is)
-      (may-step h with cells actors s w core.is_core (registry_cell ∷ ledger_cell ∷ []) n (NotesAsking called with.workers) (registry-fixed s, (ledger-fixed s, tt)) (((λ e. absurd (omega arith)), tt), (tt, tt)) b.within can))
+        registry_is = tag-is registry_cell;
+        ledger_is = tag-is ledger_cell;
+      }
 
   -- What they tell.
 
+  -- the history has this event of the actor more
+  abbrev Adds : (ActorValue → ℕ → Event) → State → Type 0
+  Adds event_of now =
+      (v u : World) → IsWorldOf state.cells.items state.actors.items v → IsWorldOf now.cells.items now.actors.items u → history_in u ≡ event_of (v.actors n) (length (history_in v)) ∷ history_in v
+
   -- an event of the actor, with its number and its role, is the command's beginning
-  module _ (c : Command) (b : IsToBegin h with cells actors n c) (cells_now : List (Option Cell)) (actors_now : List (Option Actor)) (ledger : ℕ) (ledger_is : ledger ≡ ledger_cell) where
-    begun : (event_of : ActorValue → ℕ → Event) → Adds event_of n ledger cells actors cells_now actors_now
-        → ((past : List Event) (a : ActorValue) (place : ℕ) → a.number ≡ session_of with c → a.role ≡ role_for c → Begins with h past c (event_of a place)) → GoesBy with h c cells actors cells_now actors_now
-    begun event_of adds begins v now i j =
-        let here : Adds event_of n ledger_cell cells actors cells_now actors_now = subst (λ (y : ℕ). Adds event_of n y cells actors cells_now actors_now) ledger_is adds in
-        let k = stands (get_or actors n None) (λ x. actor_of x ≡ w.actors n) (core.is_core.is.actor n b.within) in
-        let same : v.actors n ≡ w.actors n = sym (of-it (get_or actors n None) (λ x. actor_of x ≡ v.actors n) k.0 (i.actor n b.within) k.1) ∙ k.2 in
+  module _ (c : Command) (b : IsToBegin h with state.cells.items state.actors.items n c) (now : State) where
+    begun : (event_of : ActorValue → ℕ → Event) → Adds event_of now
+        → ((past : List Event) (a : ActorValue) (place : ℕ) → a.number ≡ session_of with c → a.role ≡ role_for c → Begins with h past c (event_of a place))
+        → GoesBy with h c state.cells.items state.actors.items now.cells.items now.actors.items
+    begun event_of adds begins v u i j =
+        let k = stands (get_or state.actors.items n None) (λ x. actor_of x ≡ w.actors n) (core.is_core.is.actor n b.within) in
+        let same : v.actors n ≡ w.actors n = sym (of-it (get_or state.actors.items n None) (λ x. actor_of x ≡ v.actors n) k.0 (i.actor n b.within) k.1) ∙ k.2 in
         record {
           event = event_of (v.actors n) (length (history_in v));
           begins = begins (history_in v) (v.actors n) (length (history_in v)) (ap (λ (a : ActorValue). a.number) same ∙ core.is_core.inv.holds.numbering.number n ∙ sym b.own) (ap (λ (a : ActorValue). a.role) same ∙ (next-at c b).role);
-          grows = here v now i j;
+          grows = adds v u i j;
         }
 
-    pub begun-insert : (new : NewRow) → c ≡ script.Insert new → (at : Coord) (measures : ℤ) → IsCoordNamed h new.names at → measures ≡ new.measures → Adds (begun_by at measures) n ledger cells actors cells_now actors_now
-        → GoesBy with h c cells actors cells_now actors_now
+    pub begun-insert : (new : NewRow) → c ≡ script.Insert new → (at : Coord) (measures : ℤ) → IsCoordNamed h new.names at → measures ≡ new.measures → Adds (begun_by at measures) now
+        → GoesBy with h c state.cells.items state.actors.items now.cells.items now.actors.items
     begun-insert new is at measures named same adds = begun (begun_by at measures) adds (λ past a place number role.
         subst (λ (x : Command). Begins with h past x (begun_by at measures a place)) (sym is) (number ∙ ap (session_of with) is, ap server_of (role ∙ ap role_for is), same, named))
 
-    pub begun-query : (question : Question) → c ≡ script.Query question → (filter : List Pick) → IsFilterNamed h question.filter filter → Adds (asked_by filter) n ledger cells actors cells_now actors_now
-        → GoesBy with h c cells actors cells_now actors_now
+    pub begun-query : (question : Question) → c ≡ script.Query question → (filter : List Pick) → IsFilterNamed h question.filter filter → Adds (asked_by filter) now
+        → GoesBy with h c state.cells.items state.actors.items now.cells.items now.actors.items
     begun-query question is filter named adds = begun (asked_by filter) adds (λ past a place number role.
         subst (λ (x : Command). Begins with h past x (asked_by filter a place)) (sym is) (number ∙ ap (session_of with) is, ap server_of (role ∙ ap role_for is), named))
 
-    pub begun-unknown : (dim : ℕ) → first_unknown h c ≡ Some dim → Adds (unknown_by dim) n ledger cells actors cells_now actors_now → GoesBy with h c cells actors cells_now actors_now
+    pub begun-unknown : (dim : ℕ) → first_unknown h c ≡ Some dim → Adds (unknown_by dim) now → GoesBy with h c state.cells.items state.actors.items now.cells.items now.actors.items
     begun-unknown dim first adds = begun (unknown_by dim) adds (λ past a place number role. by c first past a place number role)
       where
         by : (x : Command) → first_unknown h x ≡ Some dim → (past : List Event) (a : ActorValue) (place : ℕ) → a.number ≡ session_of with x → a.role ≡ role_for x → Begins with h past x (unknown_by dim a place)
@@ -147,11 +171,11 @@ module _ (h : List Dimension) (with : Use) (cells : List (Option Cell)) (actors 
         by (script.Query question) first past a place number role = (number, ap server_of role, first)
         by (script.Control called) first past a place number role = (number, ap server_of role ∙ no-server (class_of called), first)
 
-    pub begun-call : (called : Call) → c ≡ script.Control called → Adds (called_by called) n ledger cells actors cells_now actors_now → GoesBy with h c cells actors cells_now actors_now
+    pub begun-call : (called : Call) → c ≡ script.Control called → Adds (called_by called) now → GoesBy with h c state.cells.items state.actors.items now.cells.items now.actors.items
     begun-call called is adds = begun (called_by called) adds (λ past a place number role.
         subst (λ (x : Command). Begins with h past x (called_by called a place)) (sym is) (number ∙ ap (session_of with) is, refl))
 
-    pub begun-refused : may_be_refused c ≡ true → Adds refused_by n ledger cells actors cells_now actors_now → GoesBy with h c cells actors cells_now actors_now
+    pub begun-refused : may_be_refused c ≡ true → Adds refused_by now → GoesBy with h c state.cells.items state.actors.items now.cells.items now.actors.items
     begun-refused may adds = begun refused_by adds (λ past a place number role. by c may past a place number)
       where
         by : (x : Command) → may_be_refused x ≡ true → (past : List Event) (a : ActorValue) (place : ℕ) → a.number ≡ session_of with x → Begins with h past x (refused_by a place)
@@ -160,25 +184,28 @@ module _ (h : List Dimension) (with : Use) (cells : List (Option Cell)) (actors 
         by (script.Control called) may past a place number = (number, may)
 
 -- Where the state stayed as it was.
-module _ (h : List Dimension) (with : Use) (cells cells_now : List (Option Cell)) (actors actors_now : List (Option Actor)) (core : HasCore h with cells actors) (stays : Stays cells actors cells_now actors_now) (n : ℕ) (c : Command) where
-  still : IsCore h with cells_now actors_now core.setting core.world
-  still = core-stays cells cells_now actors actors_now stays h with core.setting core.world core.is_core
+module _ (h : List Dimension) (with : Use) (state now : State) (core : HasCore h with state.cells.items state.actors.items) (same : IsSame state now) (n : ℕ) (c : Command) where
+  still : IsCore h with now.cells.items now.actors.items core.setting core.world
+  still = same-core h with state now core.setting core.world same core.is_core
+
+  pub still-core : HasCore h with now.cells.items now.actors.items
+  still-core = record { setting = core.setting; world = core.world; is_core = still }
 
   -- the command is to begin still
-  pub to-begin-stays : IsToBegin h with cells actors n c → IsToBegin h with cells_now actors_now n c
-  to-begin-stays b = record {
-    within = subst (λ (k : ℕ). n < k) (sym stays.actors_kept) b.within;
+  pub to-begin-still : IsToBegin h with state.cells.items state.actors.items n c → IsToBegin h with now.cells.items now.actors.items n c
+  to-begin-still b = record {
+    within = subst (λ (k : ℕ). n < k) (sym same.actors_kept) b.within;
     kind_is = b.kind_is;
     begins = b.begins;
     next = λ s w is.
-        let setting : core.setting ≡ s = one-setting h with cells_now actors_now core.setting core.world still ∙ sym (one-setting h with cells_now actors_now s w is) in
-        let world : core.world ≡ w = only-world h with cells_now actors_now core.setting core.world still ∙ sym (only-world h with cells_now actors_now s w is) in
+        let setting : core.setting ≡ s = one-setting h with now.cells.items now.actors.items core.setting core.world still ∙ sym (one-setting h with now.cells.items now.actors.items s w is) in
+        let world : core.world ≡ w = only-world h with now.cells.items now.actors.items core.setting core.world still ∙ sym (only-world h with now.cells.items now.actors.items s w is) in
         subst (λ (x : Setting). IsNextAt x w n c b.kind_is) setting (subst (λ (x : World). IsNextAt core.setting x n c b.kind_is) world (b.next core.setting core.world core.is_core));
     own = b.own;
     free =
-        let k = stands (get_or actors_now n None) (λ x. actor_of x ≡ core.world.actors n) (still.is.actor n (subst (λ (k : ℕ). n < k) (sym stays.actors_kept) b.within)) in
-        is-some (get_or actors_now n None) (λ a. (actor_of a).command ≡ None) k.0 k.1
-        (ap (λ (a : ActorValue). a.command) k.2 ∙ (at-next h with cells actors core.setting core.world core.is_core n c b).free.command);
+        let k = stands (get_or now.actors.items n None) (λ x. actor_of x ≡ core.world.actors n) (still.is.actor n (subst (λ (k : ℕ). n < k) (sym same.actors_kept) b.within)) in
+        is-some (get_or now.actors.items n None) (λ a. (actor_of a).command ≡ None) k.0 k.1
+        (ap (λ (a : ActorValue). a.command) k.2 ∙ (at-next h with state.cells.items state.actors.items core.setting core.world core.is_core n c b).free.command);
     names = b.names;
     allowed = b.allowed;
   }

@@ -1,28 +1,41 @@
-use Rattle.std.proofs.Common.{◌∙◌, ap, refl, sym}
+use Rattle.std.proofs.Common.{◌∙◌, ap, refl, subst, sym}
+use Rattle.core_due.specs.WorksReady.{MayMakeNote}
+use Rattle.core_steps.specs.{Notes.{note_asks, note_places, note_tells}, Steps.IsTold, declared.notes.NoteStep.NoteStep}
+use Rattle.core_steps.specs.declared.notes.NoteStep.TheVariants.{Asking, Called}
 use Rattle.script_form.specs.declared.script.Command.TheVariants.{Control}
 use Rattle.volap_cell.specs.ImageKinds.{asks_registry}
 use Rattle.volap_cell.proofs.Outcomes.{on-ok}
-use Rattle.seeded_run.proofs.Ready.BeginsReady.{asking-ready, begun-call, called-ready}
+use Rattle.seeded_run.proofs.{Ready.BeginsReady.{asking-asked, begun-call, called-asked, noting, noting-both}, States.core-sound}
 use Rattle.seeded_run.proofs.beginnings.begin_call.Goals as goal
+use Rattle.seeded_run.proofs.beginnings.begin_call.Goals.{then-asks_registry, else-asks_registry}
 
-pub note_asking-requires-clause-ready : goal.note_asking-requires-clause-ready
-note_asking-requires-clause-ready c =
-    asking-ready c.args.h.now c.args.with.now c.args.state.now.cells.items c.args.state.now.actors.items c.requires.core c.args.number c.args.called.now c.requires.begins (ap asks_registry (sym c.class.ensures) ∙ sym c.asks_registry.ensures ∙ c.if-asks_registry.true)
-    c.registry_place-registry.result c.ledger_place-ledger.result c.registry_place-registry.ensures c.ledger_place-ledger.ensures
+pub make-requires-clause-sound : goal.make-requires-clause-sound
+make-requires-clause-sound c = core-sound c.args.h.now c.args.with.now c.args.state.now c.requires.core
 
-pub note_called-requires-clause-ready : goal.note_called-requires-clause-ready
-note_called-requires-clause-ready c =
-    called-ready c.args.h.now c.args.with.now c.args.state.now.cells.items c.args.state.now.actors.items c.requires.core c.args.number c.args.called.now c.requires.begins (ap asks_registry (sym c.class.ensures) ∙ sym c.asks_registry.ensures ∙ c.if-asks_registry.false)
-    c.ledger_place-ledger.result c.ledger_place-ledger.ensures
+pub make-requires-clause-may : goal.make-requires-clause-may
+make-requires-clause-may c =
+    let h = c.args.h.now in
+    let with = c.args.with.now in
+    let state = c.args.state.now in
+    let n = c.args.number in
+    let called = c.args.called.now in
+    let asks = ap asks_registry (sym c.class.ensures) ∙ sym c.asks_registry.ensures in
+    elim c.if-asks_registry.branch [
+      | then-asks_registry w ↦ subst (MayMakeNote h state n) (sym w.step-is)
+          (noting-both h with state c.requires.core n (Control called) c.requires.begins (note_asks (Asking c.args.called with.workers)) (asking-asked h with state c.requires.core n called c.requires.begins (asks ∙ w.if-asks_registry.true)))
+      | else-asks_registry w ↦ subst (MayMakeNote h state n) (sym w.step-is)
+          (noting h with state c.requires.core n (Control called) c.requires.begins (note_asks (Called c.args.called)) (called-asked h with state c.requires.core n called c.requires.begins (asks ∙ w.if-asks_registry.false)))
+    ]
 
-pub returns-then-asks_registry-clause-begun : goal.returns-then-asks_registry-clause-begun
-returns-then-asks_registry-clause-begun c =
-    on-ok c.note_asking.result c.note_asking.ensures.told (λ told.
-    begun-call c.args.h.now c.args.with.now c.args.state.now.cells.items c.args.state.now.actors.items c.requires.core c.args.number (Control c.args.called.now) c.requires.begins c.note_asking.new.state.cells.items c.note_asking.new.state.actors.items
-    c.ledger_place-ledger.result c.ledger_place-ledger.ensures c.args.called.now refl told)
-
-pub returns-else-asks_registry-clause-begun : goal.returns-else-asks_registry-clause-begun
-returns-else-asks_registry-clause-begun c =
-    on-ok c.note_called.result c.note_called.ensures.told (λ told.
-    begun-call c.args.h.now c.args.with.now c.args.state.now.cells.items c.args.state.now.actors.items c.requires.core c.args.number (Control c.args.called.now) c.requires.begins c.note_called.new.state.cells.items c.note_called.new.state.actors.items
-    c.ledger_place-ledger.result c.ledger_place-ledger.ensures c.args.called.now refl told)
+pub returns-clause-begun : goal.returns-clause-begun
+returns-clause-begun c =
+    let h = c.args.h.now in
+    let with = c.args.with.now in
+    let state = c.args.state.now in
+    let n = c.args.number in
+    let called = c.args.called.now in
+    let now = c.make.new.state in
+    on-ok c.make.result c.make.ensures.told (λ told. elim c.if-asks_registry.branch [
+      | then-asks_registry w ↦ begun-call h with state c.requires.core n (Control called) c.requires.begins now called refl (subst (λ (step : NoteStep). IsTold state now n (note_places step) (note_tells step)) w.step-is told)
+      | else-asks_registry w ↦ begun-call h with state c.requires.core n (Control called) c.requires.begins now called refl (subst (λ (step : NoteStep). IsTold state now n (note_places step) (note_tells step)) w.step-is told)
+    ])

@@ -1,14 +1,17 @@
+use Rattle.core_steps.specs.{Notes.note_asks, declared.notes.NoteStep.TheVariants.Unknown}
 use Rattle.volap_cell.proofs.Outcomes.{on-ok}
-use Rattle.seeded_run.proofs.Ready.BeginsReady.{begun-unknown, unknown-ready}
+use Rattle.seeded_run.proofs.{Ready.BeginsReady.{begun-unknown, noting, unknown-asked}, States.core-sound}
 use Rattle.seeded_run.proofs.beginnings.end_unknown.Goals as goal
 
-pub note_unknown-requires-clause-ready : goal.note_unknown-requires-clause-ready
-note_unknown-requires-clause-ready c =
-    unknown-ready c.args.h.now c.args.with.now c.args.state.now.cells.items c.args.state.now.actors.items c.requires.core c.args.number c.args.command.now c.requires.begins
-    c.ledger_place.result c.ledger_place.ensures
+pub make-requires-clause-sound : goal.make-requires-clause-sound
+make-requires-clause-sound c = core-sound c.args.h.now c.args.with.now c.args.state.now c.requires.core
+
+pub make-requires-clause-may : goal.make-requires-clause-may
+make-requires-clause-may c =
+    noting c.args.h.now c.args.with.now c.args.state.now c.requires.core c.args.number c.args.command.now c.requires.begins (note_asks (Unknown c.args.dim))
+    (unknown-asked c.args.h.now c.args.with.now c.args.state.now c.requires.core c.args.number c.args.command.now c.requires.begins)
 
 pub returns-clause-begun : goal.returns-clause-begun
 returns-clause-begun c =
-    on-ok c.note_unknown.result c.note_unknown.ensures.told (λ told.
-    begun-unknown c.args.h.now c.args.with.now c.args.state.now.cells.items c.args.state.now.actors.items c.requires.core c.args.number c.args.command.now c.requires.begins c.note_unknown.new.state.cells.items c.note_unknown.new.state.actors.items
-    c.ledger_place.result c.ledger_place.ensures c.args.dim c.requires.unknown told)
+    on-ok c.make.result c.make.ensures.told (λ told.
+    begun-unknown c.args.h.now c.args.with.now c.args.state.now c.requires.core c.args.number c.args.command.now c.requires.begins c.make.new.state c.args.dim c.requires.unknown told)

@@ -1,7 +1,7 @@
-use Rattle.std.proofs.Common.{◌≡◌, ℕ, [], Bool, ap, arith, false, get_or, refl, subst}
+use Rattle.std.proofs.Common.{◌≡◌, ℕ, [], Bool, ap, arith, false, get_or, subst}
 use Rattle.std.specs.List.{list_any}
 use Rattle.query_router.specs.Desk.{waits_for}
-use Rattle.seeded_run.specs.{Due.any_below, Look.{cell_at, setting_by}}
+use Rattle.core_due.specs.{Due.any_below, Look.{cell_at, setting_by}}
 use Rattle.volap_cell.specs.{Cells.desk_in, Setting.desk_cell}
 use Rattle.seeded_run.proofs.Surveys.{asks-no-more, asks-one-more, none-of}
 use Rattle.seeded_run.proofs.survey.awaited_by.Goals as goal
@@ -14,8 +14,8 @@ loop-server-preserved c = (
   λ w low.
       let s = setting_by [] c.args.with.now in
       let at : ℕ → Bool = λ (y : ℕ). list_any (waits_for w) (desk_in (cell_at c.args.cells.now y)).parts in
-      asks-one-more c.loop-server.server (λ server. at (desk_cell s server)) (at c.desk_place.result) (get_or c.loop-server.awaited w false) _ (c.loop-server.invariant.0 w low)
-      (ap at (c.desk_place.ensures s refl)) (c.note_cell-known.ensures.noted w low),
+      asks-one-more c.loop-server.server (λ server. at (desk_cell s server)) (at c.desk_at.result) (get_or c.loop-server.awaited w false) _ (c.loop-server.invariant.0 w low)
+      (ap at c.desk_at.ensures) (c.note_cell-known.ensures.noted w low),
   c.note_cell-known.ensures.known,
 )
 

@@ -1,7 +1,8 @@
 use Rattle.std.proofs.Common.{◌≡◌, ◌<◌, ℕ, [], false, get_or}
 use Rattle.std.specs.List.{list_any}
 use Rattle.query_router.specs.Desk.{waits_for}
-use Rattle.seeded_run.specs.{Due.any_below, Look.{cell_at, setting_by}, Survey.AllAwaited}
+use Rattle.core_due.specs.{Due.any_below, Look.{cell_at, setting_by}}
+use Rattle.seeded_run.specs.Survey.{AllAwaited}
 use Rattle.volap_cell.specs.{Cells.desk_in, Setting.desk_cell}
 use Rattle.seeded_run.proofs.survey.awaited_by.Given as goal
 

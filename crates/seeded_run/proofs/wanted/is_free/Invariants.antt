@@ -1,6 +1,7 @@
 use Rattle.std.proofs.Common.{◌≡◌, get_or, not, true}
 use Rattle.std.specs.Prelude.{◌==◌, ◌||◌, None}
-use Rattle.seeded_run.specs.{Due.all_below, Takes.carries_at}
+use Rattle.core_due.specs.Due.{all_below}
+use Rattle.seeded_run.specs.Takes.{carries_at}
 use Rattle.seeded_run.proofs.wanted.is_free.Given as goal
 
 abbrev pub invariant-loop-other : goal.invariant-loop-other

@@ -1,11 +1,6 @@
-use Rattle.std.proofs.Common.{◌∙◌}
 use Rattle.seeded_run.specs.Machine.{HoldsNow}
 use Rattle.seeded_run.proofs.Phases.ByHand.{later-turned}
 use Rattle.seeded_run.proofs.machine.Running.make_postpone.Goals as goal
-
-pub postpone-requires-clause-due : goal.postpone-requires-clause-due
-unfolding HoldsNow
-postpone-requires-clause-due c = record { due_is = c.kind_due.ensures ∙ c.in-Some.is; can = c.requires.can }
 
 pub returns-clause-later : goal.returns-clause-later
 returns-clause-later c = later-turned c.args.self.now c.postpone.new.self c.look_first.new.self c.args.actor c.postpone.ensures.turned c.look_first.ensures.same

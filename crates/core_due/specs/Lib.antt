@@ -1,0 +1,13 @@
+pub mod Due
+pub mod Wants
+pub mod Look
+pub mod Parts
+pub mod Spares
+pub mod Rows
+pub mod Works
+pub mod Splits
+pub mod Awaited
+pub mod Ready
+pub mod WorksReady
+pub mod Laws
+pub mod WorkLaws

@@ -1,0 +1,21 @@
+//! What is due for an actor of the core, as a step with its cells: a function of the actor and of cells alone, for all who make steps.
+#![tactic(auto)]
+
+mod hands;
+mod laws;
+mod parts;
+mod rows;
+mod sights;
+mod spares;
+mod splits;
+mod work_laws;
+mod works;
+
+pub use hands::awaiting;
+pub use laws::{part_kinds, parts_end, parts_prepared, parts_ready};
+pub use parts::{PartDue, ending, is_spent, last_noted, part_due};
+pub use rows::{descend, enter};
+pub use sights::{cell_at, desk_at, events, is_leaf_at, map_at, where_at};
+pub use splits::split_of;
+pub use work_laws::works_can_be_made;
+pub use works::{WorkDue, is_empty_at, tell_bytes, waits_for_others, work_due};
