@@ -1,0 +1,5 @@
+pub mod Filled
+pub mod Placed
+pub mod Ordered
+pub mod Known
+pub mod Turned

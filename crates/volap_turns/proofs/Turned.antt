@@ -1,0 +1,74 @@
+-- What becomes of a seat by a step that was made, or that found no memory.
+use Rattle.std.proofs.Common.{◌≡◌, ◌∙◌, ℕ, true, false, List, [], ◌∷◌, Result, Ok, Err, is_ok, refl, sym, ap, subst, inl, inr}
+use Rattle.std.specs.Prelude.{OnErr, OnOk}
+use mathlib.Core.Option.{some}
+use Rattle.atomic_table.specs.Seated.{TableId}
+use Rattle.dim_hierarchy.specs.Dimension.{Dimension}
+use Rattle.row_ledger.specs.declared.event.Event.{Event}
+use Rattle.turn_table.specs.{Numbered.{after_first, numbers_of, replace, value_of}, Seat.SeatValue, Views.after_commit}
+use Rattle.turn_table.proofs.Numbered.{find_same, replace_else, replace_found, replace_here}
+use Rattle.volap_cell.specs.{Setting.ledger_cell, Values.{ActorValue, actor_of}, World.MustKeep, declared.actor.Actor.Actor, declared.cell.Cell.Cell}
+use Rattle.volap_turns.specs.{Rows.IsThere, Rule.{Needs, history_of}, Seats.{Holds}, Wholes.CanBe}
+
+-- What is known where a call went, and where it found no memory.
+
+pub when-ok : {T E : Type 0} (r : Result T E) {P : Type 0} → OnOk r P → is_ok r ≡ true → P
+when-ok (Ok x) p e = p
+when-ok (Err x) p e = absurd (cc)
+
+pub when-err : {T E : Type 0} (r : Result T E) {P : Type 0} → OnErr r P → is_ok r ≡ false → P
+when-err (Ok x) p e = absurd (cc)
+when-err (Err x) p e = p
+
+pub as-ok : {T E : Type 0} (r : Result T E) {P : Type 0} → P → OnOk r P
+as-ok (Ok x) p = p
+as-ok (Err x) p = tt
+
+-- of two lists with the same numbers, what stands behind the first has the same numbers
+pub numbers-first : {A B : Type 0} (ps : List (ℕ × A)) (qs : List (ℕ × B)) → numbers_of ps ≡ numbers_of qs → numbers_of (after_first ps) ≡ numbers_of (after_first qs)
+numbers-first [] [] e = refl
+numbers-first [] (q ∷ qs) e = absurd (cc)
+numbers-first (p ∷ ps) [] e = absurd (cc)
+numbers-first (p ∷ ps) (q ∷ qs) e = cc
+
+module _ {h : List Dimension} {t : TableId} {s : SeatValue Cell Actor Event} {n : ℕ} {a : Actor} (holds : Holds h t s n a) where
+  -- what the seat's actors then must keep stays held, where that of this one does
+  pub left-of : (new : List (ℕ × Cell)) (b : Actor) → numbers_of new ≡ numbers_of s.view.held → ((y : ℕ) → MustKeep (actor_of b) y → IsThere (after_first s.view.held) y)
+      → (j : ℕ) (x : Actor) (k : ℕ) → value_of (replace s.view.actors n b) j ≡ some x → Needs x k → IsThere (after_first new) k
+  left-of new b numbers left j x k has needs = elim (replace_found s.view.actors n j b x holds.one.last holds.one.has has) [
+    | inl e ↦ (let it = left k (subst (λ (z : Actor). MustKeep (actor_of z) k) (sym e.1) needs) in find_same (after_first s.view.held) (after_first new) k it.0 (numbers-first s.view.held new (sym numbers)) it.1)
+    | inr e ↦ absurd (holds.one.others j x k e.0 e.1 needs)
+  ]
+
+  -- after a commit
+  pub stepped-holds : (now : SeatValue Cell Actor Event) (new : List (ℕ × Cell)) (b : Actor) → numbers_of new ≡ numbers_of s.view.held → (actor_of b).setting.hierarchy ≡ h
+      → now ≡ record { table_id = s.table_id; lifted = false; ranks = after_first s.ranks; view = after_commit ledger_cell history_of s.view new n b } → CanBe now.view → Holds h t now n b
+  stepped-holds now new b numbers about e possible = record {
+    own = ap (λ (z : SeatValue Cell Actor Event). z.table_id) e ∙ holds.own;
+    home = ap (λ (z : SeatValue Cell Actor Event). z.lifted) e;
+    one = record {
+      last = b;
+      has = ap (λ (z : SeatValue Cell Actor Event). value_of z.view.actors n) e ∙ replace_here s.view.actors n holds.one.last b holds.one.has;
+      same = refl;
+      about = about;
+      others = λ j x y ne has keeps. holds.one.others j x y ne (sym (replace_else s.view.actors n j b ne) ∙ ap (λ (z : SeatValue Cell Actor Event). value_of z.view.actors j) (sym e) ∙ has) keeps;
+    };
+    rows = ap (λ (z : SeatValue Cell Actor Event). numbers_of z.view.held) e ∙ numbers-first new s.ranks (numbers ∙ holds.rows) ∙ ap (λ (z : SeatValue Cell Actor Event). numbers_of z.ranks) (sym e);
+    possible = possible;
+    wide = ap (λ (z : SeatValue Cell Actor Event). z.view.cell_count) e ∙ holds.wide;
+  }
+
+  -- after the values were put back the seat is as it was
+  pub back-same : (out now : SeatValue Cell Actor Event) → out ≡ record s { lifted = true } → now ≡ record out { lifted = false } → now ≡ s
+  back-same out now e f = f ∙ ap (λ (z : SeatValue Cell Actor Event). let y : SeatValue Cell Actor Event = record z { lifted = false } in y) e ∙ (λ i. record s { lifted = sym holds.home i })
+
+  -- the actor may have other rooms
+  pub same-holds : (now : SeatValue Cell Actor Event) (b : Actor) → now ≡ s → actor_of b ≡ actor_of a → Holds h t now n b
+  same-holds now b e same = subst (λ (z : SeatValue Cell Actor Event). Holds h t z n b) (sym e) (record {
+    own = holds.own;
+    home = holds.home;
+    one = record { last = holds.one.last; has = holds.one.has; same = holds.one.same ∙ sym same; about = ap (λ (z : ActorValue). z.setting.hierarchy) same ∙ holds.one.about; others = holds.one.others };
+    rows = holds.rows;
+    possible = holds.possible;
+    wide = holds.wide;
+  })

@@ -1,0 +1,7 @@
+pub mod Rule
+pub mod Worlds
+pub mod Law
+pub mod Wholes
+pub mod Rows
+pub mod Made
+pub mod Seats
