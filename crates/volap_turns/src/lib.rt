@@ -5,6 +5,8 @@ mod laws;
 mod over;
 mod seat_step;
 mod spread;
+#[cfg(test)]
+mod tests;
 mod volap;
 mod wholes;
 
