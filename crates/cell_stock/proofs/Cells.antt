@@ -1,7 +1,7 @@
 -- Numbers of cells that differ.
-use Rattle.std.proofs.{Common.{ℕ, ◌≡◌, ◌+◌, ◌-◌, ◌<◌, ◌≤◌, eqb, List, [], ◌∷◌, ◌++◌, length, get_or, refl, sym, ap, ◌∙◌, subst, arith, lit<, take, drop, ◌^◌, All, Contains, IsPermutation}, lemmas.Bool.{ne_eqb, eqb-true, eqb-false}, lemmas.Bool.Decides.{same_from_decides, Decides-eqb, Decides-like}, lemmas.List.{length-append, get_or_append_left, get_or-append-add, get_or_default, take-append-drop, length_push, map-id, map_push, map-append, append_assoc, append-nil, length-map}, lemmas.List.Elements.{All-from_get_or, All-append, All-take, All-nil, All-contains_itself, Contains-append_right}, lemmas.List.Folds.Any-from_list_any, lemmas.List.FromFn.{map-range_with_len_more, length-range_with_len, get_or-range_with_len}, lemmas.List.Sorted.{All-permutation, IsPermutation-append_comm, IsPermutation-append_left, IsPermutation-append_right}, lemmas.Map.Keys.{IsDistinct-from_apart, apart_from_distinct, IsDistinct-IsPermutation}, lemmas.Map.Steps.length-le_from_distinct_below}
+use Rattle.std.proofs.{Common.{ℕ, ◌≡◌, ◌+◌, ◌-◌, ◌<◌, ◌≤◌, eqb, List, [], ◌∷◌, ◌++◌, length, get_or, refl, sym, ap, ◌∙◌, subst, arith, lit<, take, drop, ◌^◌, All, Contains, IsPermutation}, lemmas.Bool.{ne_eqb, eqb-true, eqb-false}, lemmas.Bool.Decides.{same_from_decides, Decides-eqb, Decides-like}, lemmas.List.{length-append, get_or_append_left, get_or-append-add, get_or_default, take-append-drop, length_push, map-id, map_push, map-append, append_assoc, append-nil, length-map}, lemmas.List.Elements.{All-from_get_or, All-append, All-take, All-cons, All-nil, All-contains_itself, Contains-append_right}, lemmas.List.Folds.Any-from_list_any, lemmas.List.FromFn.{map-range_with_len_more, length-range_with_len, get_or-range_with_len}, lemmas.List.Sorted.{All-permutation, IsPermutation-append_comm, IsPermutation-append_left, IsPermutation-append_right}, lemmas.Map.Keys.{IsDistinct-from_apart, apart_from_distinct, IsDistinct-IsPermutation}, lemmas.Map.Steps.length-le_from_distinct_below}
 use Rattle.std.specs.List.{IsDistinct, range_with_len}
-use Rattle.cell_stock.specs.{Stock.{StockValue, PurseValue, IsStock, AreOut, Takes, Gives, AreFresh, Fills, cells_of}, declared.purse.Spare.Spare}
+use Rattle.cell_stock.specs.{Stock.{StockValue, PurseValue, IsStock, AreOut, IsOut, Takes, Gives, AreFresh, Fills, cells_of}, declared.purse.Spare.Spare}
 
 pub IsDistinct-range : (first n : ℕ) → IsDistinct eqb (range_with_len first n)
 IsDistinct-range first n = IsDistinct-from_apart eqb (range_with_len first n)
@@ -69,6 +69,10 @@ pub room_for_given : (s : StockValue) (spares : List Spare) → IsStock s → Ar
 room_for_given s spares v out =
     let all = length-le_from_distinct (s.free ++ cells_of spares) s.cells out.once (All-append (λ cell. cell < s.cells) s.free (cells_of spares) v.known out.known) in
     omega (arith, all, length-append s.free (cells_of spares), length-map spares (λ (s : Spare). s.cell))
+
+-- and for one cell
+pub room_for_one : (s : StockValue) (cell : ℕ) → IsStock s → IsOut s cell → length s.free + 1 ≤ s.cells
+room_for_one s cell v out = room_for_given s (record { cell = cell; stamp = 0 } ∷ []) v (record { known = All-cons (λ c. c < s.cells) cell [] out.known (All-nil (λ c. c < s.cells)); once = out.once })
 
 range_more : (a n : ℕ) → range_with_len a (n + 1) ≡ range_with_len a n ++ (a + n) ∷ []
 range_more a n =

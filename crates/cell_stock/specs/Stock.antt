@@ -1,5 +1,5 @@
 -- What contracts see of a stock and of a purse, and how spares go from one to the other.
-use Rattle.std.specs.{List.{IsDistinct, range_with_len}, Prelude.{ℕ, ◌≡◌, ◌+◌, ◌<◌, ◌≤◌, ◌^◌, nat_eq, List, [], ◌++◌, length, map, All, Contains}}
+use Rattle.std.specs.{List.{IsDistinct, range_with_len}, Prelude.{ℕ, ◌≡◌, ◌+◌, ◌<◌, ◌≤◌, ◌^◌, nat_eq, List, [], ◌∷◌, ◌++◌, length, map, All, Contains}}
 use Rattle.cell_stock.specs.declared.purse.Spare.{Spare}
 
 -- how many cells there are, the numbers of the free ones, and how many stamps and shard ids were given out, which are
@@ -52,6 +52,11 @@ pub record Takes (n : ℕ) (before now : StockValue) (purse purse_now : PurseVal
 pub record AreOut (s : StockValue) (spares : List Spare) : Type 0 where
   pub known : All (λ cell. cell < s.cells) (cells_of spares)
   pub once : IsDistinct nat_eq (s.free ++ cells_of spares)
+
+-- so may one cell
+pub record IsOut (s : StockValue) (cell : ℕ) : Type 0 where
+  pub known : cell < s.cells
+  pub once : IsDistinct nat_eq (s.free ++ cell ∷ [])
 
 -- the cells of all spares of the purse are free again; their stamps are not given out a second time
 pub record Gives (before now : StockValue) (purse purse_now : PurseValue) : Type 0 where

@@ -1,7 +1,7 @@
 //! The stock of free cells, stamps and shard ids.
-ghost use Rattle.std.specs.Prelude.{ℕ, ◌≡◌, ◌+◌, ◌-◌, ◌<◌, ◌≤◌, ◌^◌, ◌↔◌, List, [], ◌++◌, length, vec_len, vec_capacity, IfOk, IfSome, IfNone, IsNone};
+ghost use Rattle.std.specs.Prelude.{ℕ, ◌≡◌, ◌+◌, ◌-◌, ◌<◌, ◌≤◌, ◌^◌, ◌↔◌, List, [], ◌∷◌, ◌++◌, length, vec_len, vec_capacity, IfOk, IfSome, IfNone, IsNone};
 ghost use Rattle.std.specs.List.{range_with_len};
-ghost use Rattle.cell_stock.specs.Stock.{StockValue, PurseValue, cells_of, IsStock, Takes, AreOut, Gives, AreFresh};
+ghost use Rattle.cell_stock.specs.Stock.{StockValue, PurseValue, cells_of, IsStock, Takes, AreOut, IsOut, Gives, AreFresh};
 ghost use Rattle.cell_stock.specs.declared.purse.Spare.{Spare};
 
 use crate::purse::{Purse, Spare};
@@ -91,6 +91,14 @@ impl Stock {
     {
         put_back(&mut self.free, purse.spares());
         purse.clear();
+    }
+
+    /// Takes one cell back, which is free again. Takes no memory.
+    pub fn put(&mut self, cell: u32)
+        requires { IsOut self.old cell }
+        ensures { self.new ≡ record self.old { free = self.old.free ++ cell ∷ [] } }
+    {
+        self.free.push_reserved(cell);
     }
 
     /// Gives out `n` shard ids, and answers the first of them.

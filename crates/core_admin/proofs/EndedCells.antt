@@ -24,15 +24,15 @@ put-keeps f (d ∷ cs) cells y at same =
     (λ q. ap (λ (b : Bool). f (cond b d.now (put cs cells y))) q ∙ ih)
 
 -- a job's end leaves a ledger
-pub ledger-of : (of : ℕ) (work : Work) (job : JobValue) (e : Event) (l : Change) (a b : ActorValue) → Finishes of work job e l a b → (lv : LedgerValue) × (lv2 : LedgerValue) × (l.before ≡ LedgerCell lv) × (l.now ≡ LedgerCell lv2)
-ledger-of of (work_is.Balance balance) job e l a b f = (f.0.ledger, f.0.ledger_now, f.0.was, f.0.is)
-ledger-of of (work_is.Insert row routed) job e l a b f = (f.0.ledger, f.0.ledger_now, f.0.was, f.0.is)
-ledger-of of work_is.Query job e l a b f = (f.0.ledger, f.0.ledger_now, f.0.was, f.0.is)
-ledger-of of (work_is.Sync server pulled) job e l a b f = (f.0.ledger, f.0.ledger_now, f.0.was, f.0.is)
-ledger-of of work_is.Bare job e l a b f = (f.0.ledger, f.0.ledger_now, f.0.was, f.0.is)
-ledger-of of (work_is.Settle pulls) job e l a b f = (f.0.ledger, f.0.ledger_now, f.0.was, f.0.is)
-ledger-of of (work_is.Action act) job e l a b f = (f.0.ledger, f.0.ledger_now, f.0.was, f.0.is)
-ledger-of of (work_is.Page subject there shown) job e l a b f = (f.0.ledger, f.0.ledger_now, f.0.was, f.0.is)
+pub ledger-of : (gate of : ℕ) (work : Work) (job : JobValue) (e : Event) (l : Change) (a b : ActorValue) → Finishes gate of work job e l a b → (lv : LedgerValue) × (lv2 : LedgerValue) × (l.before ≡ LedgerCell lv) × (l.now ≡ LedgerCell lv2)
+ledger-of gate of (work_is.Balance balance) job e l a b f = (f.0.ledger, f.0.ledger_now, f.0.was, f.0.is)
+ledger-of gate of (work_is.Insert row routed) job e l a b f = (f.0.ledger, f.0.ledger_now, f.0.was, f.0.is)
+ledger-of gate of work_is.Query job e l a b f = (f.0.ledger, f.0.ledger_now, f.0.was, f.0.is)
+ledger-of gate of (work_is.Sync server pulled) job e l a b f = (f.0.ledger, f.0.ledger_now, f.0.was, f.0.is)
+ledger-of gate of work_is.Bare job e l a b f = (f.0.ledger, f.0.ledger_now, f.0.was, f.0.is)
+ledger-of gate of (work_is.Settle pulls) job e l a b f = (f.0.ledger, f.0.ledger_now, f.0.was, f.0.is)
+ledger-of gate of (work_is.Action act) job e l a b f = (f.0.ledger, f.0.ledger_now, f.0.was, f.0.is)
+ledger-of gate of (work_is.Page subject there shown) job e l a b f = (f.0.ledger, f.0.ledger_now, f.0.was, f.0.is)
 
 -- a gate has no table, and a blank cell has none
 blank-where : (gate : Gate) (c : CellValue) → tag_of c ≡ OfStock → where_in (GateCell gate) ≡ where_in c

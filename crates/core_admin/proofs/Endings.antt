@@ -1,15 +1,16 @@
 -- A job comes to its end, whose gate retires: that keeps the invariant, and less is left.
-use Rattle.std.proofs.{Common.{◌≡◌, ◌≢◌, ℕ, ◌+◌, ◌-◌, ◌*◌, ◌<◌, ◌≤◌, true, false, eqb, List, [], ◌∷◌, ◌++◌, length, Option, Some, None, IsSome, refl, sym, ap, ◌∙◌, subst, ◌⊎◌, inl, inr, arith, le_of_lt, ◌==◌, ◌||◌}, lemmas.Bool.{eqb-true, eqb-false}}
+use Rattle.std.proofs.{Common.{◌≡◌, ◌≢◌, ℕ, ◌+◌, ◌-◌, ◌*◌, ◌<◌, ◌≤◌, true, false, cond, eqb, List, [], ◌∷◌, ◌++◌, length, Option, Some, None, IsSome, refl, sym, ap, ◌∙◌, subst, ◌⊎◌, inl, inr, arith, le_of_lt, ◌==◌, ◌||◌}, lemmas.Bool.{eqb-true, eqb-false}}
 use Rattle.std.specs.Option.{option_map_or}
 use Rattle.row_ledger.specs.{Belonging.number_in, Classes.class_of, Kept.KeepsRight, LedgerValue.LedgerValue, Past.{Step, before, work, call_at, end_in, has_ended, has_page, session_in}, Right.{AsksFor, IsRightAction, MayEnd, shows}, Shards.is_live, Work.{Did, DidOnly, is_known, shard_of}, Workers.is_on, declared.class.Class.Class, declared.event.Event.Event, declared.event.Event.TheVariants.Ended, declared.settings.Call.Call}
-use Rattle.list_words.specs.Counts.{same}
+use Rattle.list_words.specs.Counts.{same, times}
 use Rattle.list_words.proofs.Truth.{on_bool}
 use Rattle.dim_hierarchy.specs.declared.row.Row.{Row}
 use Rattle.row_ledger.proofs.{Growth.KeepsRight-ended, Positions.before-older}
 use Rattle.shard_plan.specs.{declared.action.Action.Action, declared.action.Load.Load}
+use Rattle.shard_store.specs.{declared.gate.Phase.Phase, declared.gate.Phase.TheVariants.Gone}
 use Rattle.tree_shape.specs.{Laws.OtherLaw, Shape.{Shape, numbers}}
-use Rattle.volap_cell.specs.{AdminKinds.{Finishes, PushesBoth, HasJob}, Cells.{LedgerCell, ledger_in}, Commands.{after_action, owes}, Desking.Desking, Errands.ReadPart, Falls.{control_of, job_left, left, of_work, plenty}, Ghost.{Ghost, InPurse, InTree, Owner}, Growing.{Growing, Queueing, Resting}, ImageKinds.{Pushes, doing}, Imaging.{Covering, Imaging}, Invariant.InvWith, Lineage.Lineage, Owing.{Owing, owed_by}, Placing.{Inserting, Placing}, Planning.{job_for, next_job}, Querying.{IsInTreeOf, Querying}, Setting.{Setting, actor_count, cell_count, ledger_cell, site_in}, Steps.history_in, Telling.{IsCalledAs, IsProgress, Telling}, Values.{ActorValue, JobValue, IsCalled, BuildingValue, Builds}, View.{View, row_at, view}, Working.{Balancing, IsBalancing, IsJobOf, action_of, begun_job}, World.{Change, World}, declared.command.Balance.Balance, declared.command.Command.Command, declared.command.Work.Work, declared.role.Role.Role, declared.role.Role.TheVariants.Admin}
-use Rattle.volap_cell.proofs.{OneEvent.Known.{AreOlder, older-rows}, OneEvent.Noted.telling-goes-on, OneEvent.Older.{call-kept, query-same}, OneEvent.Quiet.{covering-quiet, desking-quiet, desks-older, imaging-quiet, inserting-quiet, lineage-quiet, placing-quiet, querying-quiet, readers-older, resting-quiet}, OneEvent.Reads.{ReadersTake, pinned-whole, readers-take, reading-rows-older}, OneEvent.Told.{called-kept, commands-older}, OneEvent.Trees.{growing-grown, past-there, queueing-grown}, Persons.has-command, Views.Admin.by_finish, Views.Fields.{IsNew, IsNewAt, IsPushed, pushed-new}, Views.Seen.renewed}
+use Rattle.volap_cell.specs.{AdminKinds.{Finishes, PushesBoth, HasJob}, Cells.{CellValue, GateCell, LedgerCell, gate_shard, ledger_in, phase_of}, Commands.{after_action, owes}, Desking.Desking, Errands.ReadPart, Falls.{control_of, job_left, left, of_work, plenty}, Ghost.{AGate, Ghost, InPurse, InTree, Owner}, Growing.{Growing, Queueing, Resting}, ImageKinds.{Pushes, doing}, Imaging.{Covering, Imaging}, Invariant.InvWith, Lineage.Lineage, Owing.{Owing, owed_by}, Placing.{Inserting, Placing}, Planning.{job_for, next_job}, Querying.{IsInTreeOf, Querying}, Reusing.{Reusing, is_gone}, Setting.{Setting, actor_count, cell_count, ledger_cell, site_in}, Steps.history_in, Telling.{IsCalledAs, IsProgress, Telling}, Values.{ActorValue, JobValue, IsCalled, BuildingValue, Builds}, View.{View, row_at, view}, Working.{Balancing, IsBalancing, IsJobOf, action_of, begun_job}, World.{Change, World}, declared.command.Balance.Balance, declared.command.Command.Command, declared.command.Work.Work, declared.role.Role.Role, declared.role.Role.TheVariants.Admin}
+use Rattle.volap_cell.proofs.{OneEvent.Known.{AreOlder, older-rows}, OneEvent.Noted.telling-goes-on, OneEvent.Older.{call-kept, query-same}, OneEvent.Quiet.{covering-quiet, desking-quiet, desks-older, imaging-quiet, inserting-quiet, lineage-quiet, placing-quiet, querying-quiet, readers-older, resting-quiet}, OneEvent.Reads.{ReadersTake, pinned-whole, readers-take, reading-rows-older}, OneEvent.Told.{called-kept, commands-older}, OneEvent.Trees.{growing-grown, past-there, queueing-grown}, Persons.{has-command, only-admin}, Reusing.{more-off, more-there, reusing-turned, stands-off}, Views.Admin.by_finish, Views.Fields.{IsNew, IsNewAt, IsPushed, pushed-new}, Views.Seen.renewed}
 use Rattle.core_image.proofs.{Commands.Endings.unasked, Commands.NextAction.next-action, Commands.Owed.{owed-others, promises-now}}
 use Rattle.core_admin.proofs.{Jobs.FinishedCommands.telling-finished, Jobs.NextJobs.{IsNextOf, numbering-next, off-desk, working-next, balancing-one, control-next}, Jobs.TurnedCommands.{IsOffDesk, turned-desking, turned-inserting, turned-placing}, Moving.BalanceDone.{balancing-done, next-is, within, IsDoneBy}, Postponing.Returned.one, Retiring.Gates.{Retiring, gate-old, not-new, retired-stocking}, Retiring.Left.control-retired, Retiring.Trees.{retired-growing, retired-pinning, retired-queueing, retired-stamping}, ShardLines.{KeepsBoxes, KeepsLines, covering-kept, desking-kept, imaging-kept, inserting-kept, querying-kept, rows}, SharedLineage.{LeadsOn, leading-shared, lineage-shared}, SharedRows.{SharesRows, placing-shared, resting-shared, shared_ghost, turning-shared}, Untouched.querying-off}
 use Rattle.row_ledger.specs.declared.class.Class.TheVariants as class_is
@@ -26,18 +27,18 @@ pub record IsFinished (s : Setting) (w w2 : World) (g : Ghost) : Type 0 where
   pub falls : (left s w2 ghost_now).control < (left s w g).control
 
 -- The command of a job is a split or a move, or a balance.
-finish-cases : (of : ℕ) (work k : Work) (job : JobValue) (e : Event) (led : Change) (a b : ActorValue) → work ≡ k → IsJobOf k job → Finishes of k job e led a b
-    → ((b ≡ record a { purse = []; seen = b.seen; command = None; job = None }) × PushesBoth e (Ended of how_is.Fine) led b.seen × (work ≡ work_is.Action (action_of job)))
+finish-cases : (gate of : ℕ) (work k : Work) (job : JobValue) (e : Event) (led : Change) (a b : ActorValue) → work ≡ k → IsJobOf k job → Finishes gate of k job e led a b
+    → ((b ≡ record a { purse = []; seen = b.seen; command = None; job = None; gone_gates = a.gone_gates ++ gate ∷ [] }) × PushesBoth e (Ended of how_is.Fine) led b.seen × (work ≡ work_is.Action (action_of job)))
     ⊎ ((balance : Balance) × (work ≡ work_is.Balance balance)
-    × (b ≡ record a { purse = []; seen = b.seen; command = doing of (work_is.Balance (after_action true job balance)); job = next_job (after_action true job balance) }) × Pushes e 0 1 led b.seen)
-finish-cases of work (work_is.Action act) job e led a b is its f = inl (f.1, f.0, is ∙ ap work_is.Action (sym its))
-finish-cases of work (work_is.Balance k) job e led a b is its f = inr (k, is, f.1, f.0)
-finish-cases of work (work_is.Insert row routed) job e led a b is its f = absurd its
-finish-cases of work work_is.Query job e led a b is its f = absurd its
-finish-cases of work (work_is.Sync server pulled) job e led a b is its f = absurd its
-finish-cases of work work_is.Bare job e led a b is its f = absurd its
-finish-cases of work (work_is.Settle pulls) job e led a b is its f = absurd its
-finish-cases of work (work_is.Page subject there shown) job e led a b is its f = absurd its
+    × (b ≡ record a { purse = []; seen = b.seen; command = doing of (work_is.Balance (after_action true job balance)); job = next_job (after_action true job balance); gone_gates = a.gone_gates ++ gate ∷ [] }) × Pushes e 0 1 led b.seen)
+finish-cases gate of work (work_is.Action act) job e led a b is its f = inl (f.1, f.0, is ∙ ap work_is.Action (sym its))
+finish-cases gate of work (work_is.Balance k) job e led a b is its f = inr (k, is, f.1, f.0)
+finish-cases gate of work (work_is.Insert row routed) job e led a b is its f = absurd its
+finish-cases gate of work work_is.Query job e led a b is its f = absurd its
+finish-cases gate of work (work_is.Sync server pulled) job e led a b is its f = absurd its
+finish-cases gate of work work_is.Bare job e led a b is its f = absurd its
+finish-cases gate of work (work_is.Settle pulls) job e led a b is its f = absurd its
+finish-cases gate of work (work_is.Page subject there shown) job e led a b is its f = absurd its
 
 -- the next job of a balance is at its beginning
 next-called : (balance : Balance) (j : JobValue) → next_job balance ≡ Some j → j.stage ≡ IsCalled
@@ -48,8 +49,8 @@ next-called balance j has = (let k = next-action balance j has in ap (λ (z : Jo
     by loads (action.Move z to) = refl
 
 -- the actor has no spares behind it, and its job is at the beginning
-pub closes : (of : ℕ) (work : Work) (job : JobValue) (e : Event) (led : Change) (a b : ActorValue) → IsJobOf work job → Finishes of work job e led a b → (b.purse ≡ []) × ((j : JobValue) → b.job ≡ Some j → j.stage ≡ IsCalled)
-closes of work job e led a b its f = elim (finish-cases of work work job e led a b refl its f) [
+pub closes : (gate of : ℕ) (work : Work) (job : JobValue) (e : Event) (led : Change) (a b : ActorValue) → IsJobOf work job → Finishes gate of work job e led a b → (b.purse ≡ []) × ((j : JobValue) → b.job ≡ Some j → j.stage ≡ IsCalled)
+closes gate of work job e led a b its f = elim (finish-cases gate of work work job e led a b refl its f) [
   | inl t ↦ (ap (λ (k : ActorValue). k.purse) t.0, λ j is. let no : ◌≡◌ {A = Option JobValue} None (Some j) = sym (ap (λ (k : ActorValue). k.job) t.0) ∙ is in cc)
   | inr t ↦ (ap (λ (k : ActorValue). k.purse) t.2, λ j is. next-called (after_action true job t.0) j (sym (ap (λ (k : ActorValue). k.job) t.2) ∙ is))
 ]
@@ -110,11 +111,11 @@ pub record Ending (s : Setting) (w w2 : World) (n : ℕ) (g : Ghost) (owner : �
   pub actor : ActorValue
   pub actor_is : w2.actors n ≡ actor
   pub others : (a : ℕ) → a ≢ n → w2.actors a ≡ w.actors a
-  pub finishes : Finishes of work job e led (w.actors n) actor
   pub ledger : (lv lv2 : LedgerValue) → led.before ≡ LedgerCell lv → led.now ≡ LedgerCell lv2 → IsNew (ledger_in (w2.cells ledger_cell)) (ledger_in (w.cells ledger_cell)) lv lv2
   -- the gates, the rows, the tables and the registry
   pub view_is : view s w2 ≡ renewed by_finish (view s w2) (view s w)
   pub retiring : Retiring s (view s w) (view s w2) g (shared_ghost g owner gate shape home) n
+  pub finishes : Finishes retiring.x of work job e led (w.actors n) actor
   pub lines : KeepsLines s (view s w) g home e
   pub boxes : KeepsBoxes s (view s w) g home (view s w2).registry
   pub shares : SharesRows s (view s w) (view s w2) g (shared_ghost g owner gate shape home) n retiring e
@@ -204,8 +205,8 @@ module _ (s : Setting) (w w2 : World) (n : ℕ) (g : Ghost) (owner : ℕ → Own
   querying-1 : Querying s (e ∷ h) (row_at (e ∷ h)) u.blocks u.trees v.desks v.taken v.reads shape g.placed home g.counted
   querying-1 = querying-kept s w g i home e d.lines u.blocks u.trees shape pin-old
       (querying-off s v g other i u.blocks u.trees
-      (λ z k own. d.retiring.blocks_off z (not-new s v u g g2 n i d.retiring z (λ p. let no : InPurse n ≡ InTree k = sym p ∙ own in cc)))
-      (λ z there. d.retiring.trees_off z (gate-is-old z there))
+      (λ z k whole own. d.retiring.blocks_off z (not-new s v u g g2 n i d.retiring z (λ p. let no : InPurse n ≡ InTree k = sym p ∙ own in cc)))
+      (λ z whole. d.retiring.trees_off z (gate-is-old z whole.0))
       (λ a z p has pin. pinned-whole s v.tags v.numbers v.roles v.settings v.counted_in v.purses v.commands v.taken v.jobs v.gates v.phases v.pins v.reads i.numbering takes i.pinning a z p has pin))
 
   -- The command.
@@ -221,7 +222,7 @@ module _ (s : Setting) (w w2 : World) (n : ℕ) (g : Ghost) (owner : ℕ → Own
 
   -- What becomes of the command and of the job.
 
-  module _ (command2 : Option Command) (job2 : Option JobValue) (is : b ≡ record (w.actors n) { purse = []; seen = b.seen; command = command2; job = job2 }) where
+  module _ (command2 : Option Command) (job2 : Option JobValue) (is : b ≡ record (w.actors n) { purse = []; seen = b.seen; command = command2; job = job2; gone_gates = (w.actors n).gone_gates ++ d.retiring.x ∷ [] }) where
     turn : IsNewAt u.commands v.commands n (Some its) command2
     turn = record {
       was_there = d.command;
@@ -235,6 +236,29 @@ module _ (s : Setting) (w w2 : World) (n : ℕ) (g : Ghost) (owner : ℕ → Own
       is_there = ap (λ (a : ActorValue). a.job) (d.actor_is ∙ is);
       elsewhere = λ a ne. ap (λ (k : ActorValue). k.job) (d.others a ne);
     }
+
+    -- the old gate comes to the administrator's list, and no new one
+    reusing-now : Reusing v.roles u.phases u.gone_gates
+    reusing-now =
+        let x = d.retiring.x in
+        let list : u.gone_gates n ≡ v.gone_gates n ++ x ∷ [] = ap (λ (a : ActorValue). a.gone_gates) (d.actor_is ∙ is) in
+        reusing-turned v.roles v.phases u.phases v.gone_gates u.gone_gates i.reusing n x (λ a role. only-admin s v i.numbering n a admin role)
+        (λ z ne. ap (times z) list ∙ more-off (v.gone_gates n) x z ne)
+        (let now = ap (times x) list in
+        let more = more-there (v.gone_gates n) x in
+        let was : times x (v.gone_gates n) ≡ 0 = i.reusing.listed n x admin ∙ ap (λ (p : Option Phase). cond (is_gone p) 1 0) d.retiring.frozen in
+        let gone : ◌≡◌ {A = ℕ} (cond (is_gone (u.phases x)) 1 0) 1 = ap (λ (p : Option Phase). cond (is_gone p) 1 0) d.retiring.phase_x in
+        omega (arith, now, more, was, gone))
+        (λ z ne. on_bool (d.retiring.new z)
+        (λ q. ap is_gone (d.retiring.phase_new z q) ∙ sym (stands-off (v.phases z) (λ e. no-gate z q (has-phase (w.cells z) Gone e))))
+        (λ q. ap is_gone (d.retiring.phases_off z q ne)))
+      where
+        has-phase : (c : CellValue) (p : Phase) → phase_of c ≡ Some p → IsSome (gate_shard c)
+        has-phase (GateCell gate) p is = refl
+        has-phase _ p is = cc
+
+        no-gate : (z : ℕ) → d.retiring.new z ≡ true → IsSome (v.gates z) → ⊥
+        no-gate z q is = (let no : InPurse n ≡ AGate = sym (d.retiring.purse_cell z q) ∙ i.stocking.gate z is in cc)
 
     -- What each case shows besides.
     together : (history newer : List Event) → u.history ≡ history → history ≡ newer ++ h → Telling s history u.commands u.jobs v.roles u.seen g.placed → Owing s history u.promised v.images v.desks v.roles u.commands v.counted_in
@@ -269,6 +293,7 @@ module _ (s : Setting) (w w2 : World) (n : ℕ) (g : Ghost) (owner : ℕ → Own
             querying = querying;
             working = working-next s v g i n d.job job2 u.jobs new history command2 next u.commands (Some its) turn u.purses d.retiring.purse u.blocks u.made u.trees u.phases u.active u.queues gate shape g.placed;
             balancing = balancing;
+            reusing = reusing-now;
           });
           newer = newer;
           grows = hist ∙ past;
@@ -277,7 +302,7 @@ module _ (s : Setting) (w w2 : World) (n : ℕ) (g : Ghost) (owner : ℕ → Own
 
   -- A command of one action ends with the event.
 
-  module _ (is : b ≡ record (w.actors n) { purse = []; seen = b.seen; command = None; job = None }) (p : PushesBoth e (Ended d.of how_is.Fine) d.led b.seen) (is_action : d.work ≡ work_is.Action (action_of d.job)) where
+  module _ (is : b ≡ record (w.actors n) { purse = []; seen = b.seen; command = None; job = None; gone_gates = (w.actors n).gone_gates ++ d.retiring.x ∷ [] }) (p : PushesBoth e (Ended d.of how_is.Fine) d.led b.seen) (is_action : d.work ≡ work_is.Action (action_of d.job)) where
     abbrev f : Event
     f = Ended d.of how_is.Fine
 
@@ -383,7 +408,7 @@ module _ (s : Setting) (w w2 : World) (n : ℕ) (g : Ghost) (owner : ℕ → Own
     calls : IsCalledAs h d.of (class_is.Balance balance.most) × (v.roles n ≡ Admin)
     calls = subst (λ (k : Work). IsProgress s h d.of k (Some d.job) (v.roles n)) works progress
 
-    module _ (is : b ≡ record (w.actors n) { purse = []; seen = b.seen; command = Some its_now; job = next_job next }) (p : Pushes e 0 1 d.led b.seen) where
+    module _ (is : b ≡ record (w.actors n) { purse = []; seen = b.seen; command = Some its_now; job = next_job next; gone_gates = (w.actors n).gone_gates ++ d.retiring.x ∷ [] }) (p : Pushes e 0 1 d.led b.seen) where
       pushed : IsPushed e 0 1 b.seen u.history h u.promised v.promised
       pushed = pushed-new p (d.ledger p.ledger p.ledger_now p.was p.is)
 
@@ -439,7 +464,7 @@ module _ (s : Setting) (w w2 : World) (n : ℕ) (g : Ghost) (owner : ℕ → Own
 
   -- Either is so.
   pub finished : IsFinished s w w2 g
-  finished = elim (finish-cases d.of d.work d.work d.job e d.led (w.actors n) b refl its-work d.finishes) [
+  finished = elim (finish-cases d.retiring.x d.of d.work d.work d.job e d.led (w.actors n) b refl its-work d.finishes) [
     | inl t ↦ ends-with t.0 t.1 t.2
     | inr t ↦ goes-on t.0 t.1 t.2 t.3
   ]

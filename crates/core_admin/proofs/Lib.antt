@@ -12,7 +12,9 @@ mod SharedRows
 mod SharedLineage
 mod Endings
 mod EndedCells
+mod GoneRoom
 pub mod Splitting
 mod PlansAhead
 mod KnownIds
 pub mod TableSteps
+pub mod Reusing

@@ -1,5 +1,5 @@
--- A step that changes cells of no tree leaves every tree as it is, and every query that is pinned to one.
-use Rattle.std.proofs.{Common.{◌≡◌, ◌≢◌, ℕ, true, eqb, Option, Some, None, IsSome, List, refl, sym, ap, subst}, lemmas.Bool.eqb-false}
+-- A step that changes cells of no whole tree leaves each of these as it is, and every query that is pinned to one.
+use Rattle.std.proofs.{Common.{◌≡◌, ◌≢◌, ℕ, true, eqb, Option, Some, None, List, refl, sym, ap, subst}, lemmas.Bool.eqb-false}
 use Rattle.cell_stock.specs.declared.purse.Spare.{Spare}
 use Rattle.dc_node.specs.{declared.block.Block.Block, declared.entry.Entry.Entry}
 use Rattle.row_ledger.specs.Past.{Query}
@@ -10,15 +10,15 @@ use Rattle.tree_shape.specs.{Laws.OtherLaw, Queries.fits, Shape.{Node, gate_node
 use Rattle.volap_cell.specs.{Errands.ReadPart, Ghost.{Ghost, InTree}, Growing.{Growing, table_of}, Invariant.InvWith, Querying.{IsWalk, Querying, must_hold}, Setting.Setting, Stocking.{IsWhole, NoneExpects, cells_at}, Values.ReadingValue, View.View}
 use Rattle.core_tree.proofs.Stocks.Spares.{spares-distinct, spares-each, spares-from}
 
-module _ (s : Setting) (v : View) (g : Ghost) (other : OtherLaw) (i : InvWith s v g) (blocks_now : ℕ → Block) (trees_now : ℕ → Gate) (off : (y c : ℕ) → g.owner y ≡ InTree c → blocks_now y ≡ v.blocks y) (trees_off : (c : ℕ) → IsSome (v.gates c) → trees_now c ≡ v.trees c) where
+module _ (s : Setting) (v : View) (g : Ghost) (other : OtherLaw) (i : InvWith s v g) (blocks_now : ℕ → Block) (trees_now : ℕ → Gate) (off : (y c : ℕ) → IsWhole v.gates v.phases v.pins c → g.owner y ≡ InTree c → blocks_now y ≡ v.blocks y) (trees_off : (c : ℕ) → IsWhole v.gates v.phases v.pins c → trees_now c ≡ v.trees c) where
   abbrev Whole : ℕ → Type 0
   Whole d = IsWhole v.gates v.phases v.pins d
 
   pub leaves : (d : ℕ) → Whole d → LeavesTree (g.shape d) (cells_at v.blocks v.trees d) (cells_at blocks_now trees_now d)
   leaves d w = record {
     gate_cell = refl;
-    gate = record { root = ap root_entry (trees_off d w.0); height = ap (λ (z : Gate). z.height) (trees_off d w.0) };
-    block = λ y yi yd. off y d (i.stocking.tree d y w yi yd).0;
+    gate = record { root = ap root_entry (trees_off d w); height = ap (λ (z : Gate). z.height) (trees_off d w) };
+    block = λ y yi yd. off y d w (i.stocking.tree d y w yi yd).0;
   }
 
   pub apart : (d : ℕ) → Whole d → AfterOther (table_of s v.row) (g.shape d) (cells_at v.blocks v.trees d) (cells_at blocks_now trees_now d)
@@ -26,8 +26,8 @@ module _ (s : Setting) (v : View) (g : Ghost) (other : OtherLaw) (i : InvWith s 
 
   node-same : (d y : ℕ) → Whole d → (g.shape d).inside y ≡ true → nodes (cells_at blocks_now trees_now d) y ≡ nodes (cells_at v.blocks v.trees d) y
   node-same d y w inside = on_bool (eqb y d)
-      (λ q. rw q (ap gate_node (trees_off d w.0)))
-      (λ q. rw q (ap node_of (off y d (i.stocking.tree d y w inside (eqb-false y d q)).0)))
+      (λ q. rw q (ap gate_node (trees_off d w)))
+      (λ q. rw q (ap node_of (off y d w (i.stocking.tree d y w inside (eqb-false y d q)).0)))
 
   pub growing-off : Growing s v.row blocks_now trees_now v.gates v.phases v.pins g.shape
   growing-off = record { tree = λ d w. (apart d w).tree }

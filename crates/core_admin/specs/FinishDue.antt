@@ -270,7 +270,7 @@ pub record MayFinish (gate : Gate) (registry : RegistryValue) (stock : StockValu
   pub promised : gone_by (plans work) ≤ ledger.promised
   pub close : MayCloseDone (plans work) a.command true
 
-pub record FinishesFor (h : List Dimension) (gate gate_now : Gate) (registry registry_now : RegistryValue) (stock stock_now : StockValue) (ledger ledger_now : LedgerValue) (a b : ActorValue) : Type 0 where
+pub record FinishesFor (h : List Dimension) (gate_at : ℕ) (gate gate_now : Gate) (registry registry_now : RegistryValue) (stock stock_now : StockValue) (ledger ledger_now : LedgerValue) (a b : ActorValue) : Type 0 where
   pub of : ℕ
   pub work : Work
   pub command : a.command ≡ doing of work
@@ -285,4 +285,4 @@ pub record FinishesFor (h : List Dimension) (gate gate_now : Gate) (registry reg
   pub noted : NotesDone (plans work) of (event.Moved of job.shard worker) ledger ledger_now
   pub closed : ClosesDone (plans work) job.shard job.to a.command b.command b.job
   pub seen : b.seen ≡ length ledger_now.history
-  pub actor_is : b ≡ record a { purse = []; seen = b.seen; command = b.command; job = b.job }
+  pub actor_is : b ≡ record a { purse = []; seen = b.seen; command = b.command; job = b.job; gone_gates = a.gone_gates ++ gate_at ∷ [] }

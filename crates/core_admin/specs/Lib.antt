@@ -4,3 +4,4 @@ pub mod BuildDue
 pub mod FinishDue
 pub mod LoadDue
 pub mod SplitDue
+pub mod ReuseDue

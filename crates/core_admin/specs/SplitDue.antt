@@ -133,7 +133,7 @@ pub record MayFinishSplit (gate : Gate) (stock : StockValue) (ledger : LedgerVal
   pub promised : gone_by (plans work) ≤ ledger.promised
   pub close : MayCloseDone (plans work) a.command true
 
-pub record FinishesDivided (h : List Dimension) (gate gate_now : Gate) (stock stock_now : StockValue) (ledger ledger_now : LedgerValue) (a b : ActorValue) : Type 0 where
+pub record FinishesDivided (h : List Dimension) (gate_at : ℕ) (gate gate_now : Gate) (stock stock_now : StockValue) (ledger ledger_now : LedgerValue) (a b : ActorValue) : Type 0 where
   pub of : ℕ
   pub work : Work
   pub command : a.command ≡ doing of work
@@ -145,4 +145,4 @@ pub record FinishesDivided (h : List Dimension) (gate gate_now : Gate) (stock st
   pub noted : NotesDone (plans work) of (event.Split of job.shard stock.ids (stock.ids + 1)) ledger ledger_now
   pub closed : ClosesDone (plans work) job.shard None a.command b.command b.job
   pub seen : b.seen ≡ length ledger_now.history
-  pub actor_is : b ≡ record a { purse = []; seen = b.seen; command = b.command; job = b.job }
+  pub actor_is : b ≡ record a { purse = []; seen = b.seen; command = b.command; job = b.job; gone_gates = a.gone_gates ++ gate_at ∷ [] }

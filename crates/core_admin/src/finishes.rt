@@ -29,8 +29,8 @@ use volap_cell::{Actor, Balance, BuiltTree, Cell, Command, Job, Stage, Work};
 
 /// Ends the move of the actor's shard to another worker: the new tree has a gate of its own there, with the rows
 /// that came to the queue after the shard was frozen, and the old gate is gone. A balance goes on to its next
-/// action, and a move ends. The new gate is made first, and its place in the table; where memory is wanting for
-/// these, nothing changes.
+/// action, and a move ends. The new gate is made first, its place in the table and room for the old one among the
+/// gates that are gone; where memory is wanting for these, nothing changes.
 pub fn finish_move(
     alloc: Global,
     h: &Hierarchy,
@@ -66,6 +66,7 @@ pub fn finish_move(
 {
     frame_law();
     collect_laws();
+    actor.gone_gates.reserve()?;
     let Cell::Map { map: from, .. } = from else {
         unreachable!()
     };
@@ -89,7 +90,7 @@ pub fn finish_move(
     };
     let made = make_way(alloc, h, new_at, from, to, gate, job)?;
     put_gate(new, made);
-    finish_for(alloc, h, gate, registry, stock, ledger, actor);
+    finish_for(alloc, h, gate_at, gate, registry, stock, ledger, actor);
     Ok(())
 }
 
@@ -128,6 +129,7 @@ pub fn finish_here(
 {
     frame_law();
     collect_laws();
+    actor.gone_gates.reserve()?;
     let Cell::Map { map: table, .. } = table else {
         unreachable!()
     };
@@ -148,7 +150,7 @@ pub fn finish_here(
     };
     let made = make_way_here(alloc, h, new_at, table, gate, job)?;
     put_gate(new, made);
-    finish_for(alloc, h, gate, registry, stock, ledger, actor);
+    finish_for(alloc, h, gate_at, gate, registry, stock, ledger, actor);
     Ok(())
 }
 
@@ -274,11 +276,12 @@ pub(crate) fn put_gate(cell: &mut Cell, gate: Box<Gate>)
     mem::replace(cell, Cell::Gate(gate));
 }
 
-/// Ends the actor's move, whose new gate stands: the old gate is gone, the shard is the new worker's, the spares
-/// that are left are free again, and the command goes on or ends. Takes no memory.
+/// Ends the actor's move, whose new gate stands: the old gate is gone, and on the actor's list, the shard is the new
+/// worker's, the spares that are left are free again, and the command goes on or ends. Takes no memory.
 fn finish_for(
     alloc: Global,
     h: &Hierarchy,
+    gate_at: u32,
     gate: &mut Gate,
     registry: &mut Registry,
     stock: &mut Stock,
@@ -286,7 +289,8 @@ fn finish_for(
     actor: &mut Actor,
 )
     requires due { MayFinish gate.old registry.old stock.old ledger.old (actor_of actor.old) }
-    ensures { FinishesFor h.now gate.old gate.new registry.old registry.new stock.old stock.new ledger.old ledger.new (actor_of actor.old) (actor_of actor.new) }
+    requires room { 0 < actor.old.gone_gates.room }
+    ensures { FinishesFor h.now gate_at gate.old gate.new registry.old registry.new stock.old stock.new ledger.old ledger.new (actor_of actor.old) (actor_of actor.new) }
 {
     let Some(command) = &actor.command else {
         unreachable!()
@@ -299,6 +303,7 @@ fn finish_for(
     let shard = job.shard;
     let planned = plans(&command.work);
     retire_for(alloc, h, gate, job);
+    actor.gone_gates.push(gate_at);
     registry.rehost(shard, worker);
     give_rest(stock, &mut actor.purse);
     note_done(ledger, planned, of, Event::Moved { of, shard, worker });

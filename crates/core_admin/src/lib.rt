@@ -7,6 +7,7 @@ mod collects;
 mod finishes;
 mod freezes;
 mod loads;
+mod reuses;
 mod splits;
 mod trees;
 
@@ -15,5 +16,6 @@ pub use collects::{collect_block, collect_row};
 pub use finishes::{finish_here, finish_move};
 pub use freezes::{drained, freeze};
 pub use loads::read_load;
+pub use reuses::{reuse_block, reuse_gate};
 pub use splits::finish_split;
 pub use trees::build_trees;

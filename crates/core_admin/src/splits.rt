@@ -31,8 +31,9 @@ const LAST_PAIR: u32 = u32::MAX - 2;
 
 /// Ends the split of the actor's shard: either new tree has a gate of its own, with the rows of its side that came
 /// to the queue after the shard was frozen, the worker's table and the registry lead to both, and the old gate is
-/// gone. A balance goes on to its next action, and a split ends. The new gates are made first, and their places
-/// in the table and in the registry; where memory or ids are wanting for these, nothing changes.
+/// gone. A balance goes on to its next action, and a split ends. The new gates are made first, their places in the
+/// table and in the registry and room for the old one among the gates that are gone; where memory or ids are
+/// wanting for these, nothing changes.
 pub fn finish_split(
     alloc: Global,
     h: &Hierarchy,
@@ -69,6 +70,7 @@ pub fn finish_split(
     frame_law();
     collect_laws();
     tree_laws();
+    actor.gone_gates.reserve()?;
     let Cell::Map { map: table, .. } = table else {
         unreachable!()
     };
@@ -93,7 +95,7 @@ pub fn finish_split(
     )?;
     put_gate(left, one);
     put_gate(right, two);
-    finish_divided(alloc, h, gate, stock, ledger, actor);
+    finish_divided(alloc, h, gate_at, gate, stock, ledger, actor);
     Ok(())
 }
 
@@ -229,18 +231,20 @@ fn lead_apart(table: &mut MapTable, shard: u32, plane: &Plane, first: u32)
     }
 }
 
-/// Ends the actor's split, whose new gates stand: the old gate is gone, the spares that are left are free again,
-/// and the command goes on or ends. Takes no memory.
+/// Ends the actor's split, whose new gates stand: the old gate is gone, and on the actor's list, the spares that are
+/// left are free again, and the command goes on or ends. Takes no memory.
 fn finish_divided(
     alloc: Global,
     h: &Hierarchy,
+    gate_at: u32,
     gate: &mut Gate,
     stock: &mut Stock,
     ledger: &mut Ledger,
     actor: &mut Actor,
 )
     requires due { MayFinishSplit gate.old stock.old ledger.old (actor_of actor.old) }
-    ensures { FinishesDivided h.now gate.old gate.new stock.old stock.new ledger.old ledger.new (actor_of actor.old) (actor_of actor.new) }
+    requires room { 0 < actor.old.gone_gates.room }
+    ensures { FinishesDivided h.now gate_at gate.old gate.new stock.old stock.new ledger.old ledger.new (actor_of actor.old) (actor_of actor.new) }
 {
     let Some(command) = &actor.command else {
         unreachable!()
@@ -252,6 +256,7 @@ fn finish_divided(
     let shard = job.shard;
     let planned = plans(&command.work);
     retire_for(alloc, h, gate, job);
+    actor.gone_gates.push(gate_at);
     let left = give_most(stock, &mut actor.purse);
     let right = left + 1;
     let event = Event::Split {

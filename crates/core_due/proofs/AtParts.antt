@@ -1,7 +1,7 @@
 -- What the invariant says of an actor that is at a part: it, its server and its worker are there, it has no job, and the gates and blocks
 -- that its part names stand.
 use Rattle.std.proofs.{Common.{◌≡◌, ◌∙◌, ℕ, ◌<◌, Bool, true, false, IsSome, List, [], ◌∷◌, ◌++◌, Option, Some, None, refl, sym, ap, subst}, lemmas.Bool.{and_parts, eqb-true}}
-use Rattle.std.specs.{Prelude.{◌==◌, ◌&&◌, ◌||◌}}
+use Rattle.std.specs.Prelude.{◌==◌, ◌&&◌, ◌||◌}
 use Rattle.core_due.specs.Due.{led_to}
 use Rattle.core_due.proofs.GatesLed.{led-stands}
 use Rattle.core_tree.proofs.Queries.Walkers.{walker}

@@ -4,7 +4,7 @@ use Rattle.std.specs.{Option.option_map_or, Prelude.{if◌then◌else◌, option
 use Rattle.cell_stock.specs.declared.purse.Spare.{Spare}
 use Rattle.core_due.specs.{Rows.{first_behind, next_behind, second_behind}, Spares.{last_spare, spare_before}}
 use Rattle.core_due.proofs.LastItems.{ends-in, ends-in-two, first-before, second-last, spare-last}
-use Rattle.core_steps.specs.{Places.number_at, Trees.number_of}
+use Rattle.core_steps.specs.{Places.number_at, Rows.number_of}
 use Rattle.core_tree.specs.Descent.{AreForNew, two_if}
 use Rattle.core_tree.proofs.{Calls.Lends.lent_as, Stocks.Spares.{AreDistinct, distinct-right}}
 use Rattle.dc_node.specs.{Block.is_full, declared.block.Block.Block, declared.entry.Entry.Entry}

@@ -37,8 +37,6 @@ module _ (s : Setting) (w : World) (inv : Inv s w) (n : ℕ) where
       hold-three s w inv n image registry_cell ledger_cell (ImageOf x) TheRegistry TheLedger image_is (i.numbering.tag registry_cell) (i.numbering.tag ledger_cell) (λ e. cc) (λ e. cc) (λ e. cc) (λ e. cc) (λ e. cc) (λ e. cc)
 
   pub book-held : (step : BookStep) → IsBookAsked s w n step → CanHoldAll s w n (numbers (book_places step))
-  book-held (book.BeginInsert image at measures) k = image-ledger image k.server k.image_is
-  book-held (book.BeginQuery desk image filter) k = desk-image-ledger desk image k.server k.desk_is k.image_is
   book-held (book.Route desk image) k = desk-image desk image k.server k.desk_is k.image_is
   book-held (book.Ack desk image) k = desk-image-ledger desk image k.server k.desk_is k.image_is
   book-held (book.Answer desk) k = desk-ledger desk k.server k.desk_is

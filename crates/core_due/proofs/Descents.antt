@@ -3,9 +3,9 @@ use Rattle.std.proofs.Common.{◌≡◌, ◌≢◌, ◌∙◌, ℕ, ◌≤◌, L
 use Rattle.std.proofs.lemmas.Bool.{eqb-false}
 use Rattle.std.specs.{Option.IfSome, Prelude.{option_and_then, option_map}}
 use Rattle.cell_stock.specs.declared.purse.Spare.{Spare}
-use Rattle.core_due.specs.{Ready.{IsDescending, IsFree, IsLendable, IsTreePrepared}, Rows.{descent_of, down_by, down_for, first_behind, held_for, row_in, row_of, second_behind}, Spares.{last_spare}}
+use Rattle.core_due.specs.{Ready.{IsDescending, IsFree, IsLendable, IsRowPrepared}, Rows.{descent_of, down_by, down_for, first_behind, held_for, row_in, row_of, second_behind}, Spares.{last_spare}}
 use Rattle.core_due.proofs.{AtParts.part-there, Heads.{AreBeside, beside, of-each, spare-off}, Behind.{AreSpareCells, IsHeldTail, held-tail, numbers-of-two, one-held, one-spare, tail_numbers, two-held}, Owned.{lend-block, lend-own}, Picks.{HasPick, entries-some, has-pick}, StepsPrepared.carried-own}
-use Rattle.core_steps.specs.{Places.{number_at, numbers}, Trees.tree_places}
+use Rattle.core_steps.specs.{Places.{number_at, numbers}, Rows.row_places}
 use Rattle.core_tree.specs.Descent.{AreForNew}
 use Rattle.core_tree.proofs.{Calls.Lends.{lends-behind}, Rows.Carriers.{Carries, carries, purse-owned}}
 use Rattle.dc_node.specs.{Block.{IsBodyOf, entries_in, is_full}, declared.entry.Entry.Entry}
@@ -21,7 +21,7 @@ pub record IsDescent (s : Setting) (w : World) (n block : ℕ) : Type 0 where
   pub d : IsDescending w n block
   pub pick : HasPick s.hierarchy d.r.row.at (entries_in (block_in (w.cells block)).body)
   pub step_is : descent_of s.hierarchy w (w.actors n) block ≡ Some (down_by w (w.actors n).purse block pick.place pick.entry)
-  pub prepared : IsTreePrepared s w n (down_by w (w.actors n).purse block pick.place pick.entry)
+  pub prepared : IsRowPrepared s w n (down_by w (w.actors n).purse block pick.place pick.entry)
   -- the block and the row are of the dimensions
   pub body : IsBodyOf s.hierarchy (block_in (w.cells block)).body
   pub row_valid : IfSome (row_of (w.actors n).errand) (IsRowOf s.hierarchy)
@@ -98,12 +98,12 @@ module _ (s : Setting) (w : World) (g : Ghost) (i : InvWith s (view s w) g) (n b
   behind-off y b e = (let low = below.below in let same = ap shape.level e in let level = b.level in absurd (omega arith))
 
   -- its numbers, in a row
-  row-is : numbers (tree_places (down_by w purse block pick.place entry)) ≡ block ∷ entry.child ∷ (behind ++ fresh)
+  row-is : numbers (row_places (down_by w purse block pick.place entry)) ≡ block ∷ entry.child ∷ (behind ++ fresh)
   row-is =
       ap (λ (zs : List ℕ). block ∷ entry.child ∷ zs)
       (numbers-of-two (first_behind entry.stamp (block_in (w.cells entry.child))) (second_behind w entry.stamp (first_behind entry.stamp (block_in (w.cells entry.child)))) fresh)
 
-  down-prepared : IsTreePrepared s w n (down_by w purse block pick.place entry)
+  down-prepared : IsRowPrepared s w n (down_by w purse block pick.place entry)
   down-prepared =
       let own = carried-own (w.actors n) d.e d.r d.gate block d.errand d.row d.way_is in
       record {

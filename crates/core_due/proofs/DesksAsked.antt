@@ -11,7 +11,7 @@ use Rattle.measure_agg.specs.Aggregate.{Aggregate}
 use Rattle.query_router.specs.{Desk.{is_open, is_placed, is_refused, is_waiting, state_is_placed, sum_of, verdict_of}, declared.part.Part.Part, declared.part.PartState.PartState, declared.part.Verdict.Verdict}
 use Rattle.query_router.specs.declared.part.PartState.TheVariants as state
 use Rattle.query_router.specs.declared.part.Verdict.TheVariants as verdict
-use Rattle.row_ledger.specs.{Past.{Insert, Query}}
+use Rattle.row_ledger.specs.Past.{Insert, Query}
 use Rattle.volap_cell.proofs.Cells.Numbers.{tag-desk, tag-image}
 use Rattle.volap_cell.specs.{Cells.{DeskOf, ImageOf, desk_in, tag_of}, Desking.{IsInsertState, IsQueryState, is_on_desk}, ImageKinds.doing, Invariant.InvWith, Numbering.IsRoleOf, Setting.{Setting, desk_cell, image_cell, ledger_cell}, ShardKinds.{IsDeskFor, may_take}, Steps.{Inv}, Values.{JobValue}, View.view, World.World, declared.command.Command.Command, declared.command.Work.Work, declared.role.Role.Role, declared.role.Role.TheVariants.{Admin, Hand, Puller, Session}}
 use Rattle.volap_cell.specs.declared.command.Work.TheVariants as work_is

@@ -12,7 +12,7 @@ use Rattle.mapping_table.specs.declared.place.Where.TheVariants as where_is
 pub of-some : {A : Type 0} (o : Option A) (P : A → Type 0) (x : A) → IfSome o P → o ≡ Some x → P x
 of-some {A} o P x holds is = subst (λ (z : Option A). IfSome z P) is holds
 
-pub either : (P : PartDue → Type 0) (b : Bool) (x y : PartDue) → (b ≡ true → P x) → (b ≡ false → P y) → P (if b then x else y)
+pub either : {A : Type 0} (P : A → Type 0) (b : Bool) (x y : A) → (b ≡ true → P x) → (b ≡ false → P y) → P (if b then x else y)
 either P true x y f g = f refl
 either P false x y f g = g refl
 

@@ -1,6 +1,6 @@
 -- What an end asks is so of a called command that may end so, and what the page of a command asks where it is due.
 use Rattle.std.proofs.{Common.{ℕ, ◌≡◌, ◌+◌, ◌==◌, ◌&&◌, Bool, true, false, length, Some, None, refl, sym, subst, eqb-true, if◌then◌else◌}, lemmas.Bool.{and_parts}}
-use Rattle.std.specs.{Prelude.{IfSome}}
+use Rattle.std.specs.Prelude.{IfSome}
 use Rattle.core_due.specs.{Works.{page_due}, WorksReady.{IsWorkAsked}}
 use Rattle.core_due.specs.declared.works.WorkDue.TheVariants.{Ends, Shows}
 use Rattle.row_ledger.specs.{declared.class.Subject.Subject, declared.settings.How.How}

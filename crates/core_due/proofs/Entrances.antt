@@ -3,9 +3,9 @@ use Rattle.std.proofs.Common.{◌≡◌, ◌≢◌, ◌∙◌, ℕ, ◌<◌, inl
 use Rattle.std.proofs.lemmas.List.{append_assoc}
 use Rattle.std.specs.Prelude.{option_map}
 use Rattle.cell_stock.specs.declared.purse.Spare.{Spare}
-use Rattle.core_due.specs.{Due.may_enter, Ready.{IsEntering, IsFree, IsLendable, IsTreePrepared}, Rows.{entrance_of, first_behind, gate_in, held_for, in_by, second_behind}, Spares.{last_spare, spare_before}}
+use Rattle.core_due.specs.{Due.may_enter, Ready.{IsEntering, IsFree, IsLendable, IsRowPrepared}, Rows.{entrance_of, first_behind, gate_in, held_for, in_by, second_behind}, Spares.{last_spare, spare_before}}
 use Rattle.core_due.proofs.{AtParts.{led-gate, part-places, part-there}, Behind.{AreSpareCells, IsHeldTail, held-tail, numbers-of-two, tail_numbers, two-held, two-spares}, Gates.{MayEnter, gate-is, may-enter}, Heads.{AreBeside, beside, of-each}, Tables.{IsTable, table-of}, Owned.{behind-owned, gate-owned, lend-block, lend-gate, lend-map, map-tag, off-map, spare-owned, tree-owned}}
-use Rattle.core_steps.specs.{Places.{number_at, numbers}, Trees.tree_places}
+use Rattle.core_steps.specs.{Places.{number_at, numbers}, Rows.row_places}
 use Rattle.core_tree.specs.Descent.{AreForNew}
 use Rattle.core_tree.proofs.{Calls.Lends.{lends-root, lent_as}, Rows.Carriers.purse-owned, Stocks.Spares.{AreDistinct, spares-distinct, spares-left}}
 use Rattle.dc_node.specs.{Block.is_full}
@@ -19,7 +19,7 @@ use Rattle.volap_cell.specs.{Cells.{CellValue, GateCell, block_in, gate_shard, p
 -- The step: in at the gate.
 pub record IsEntrance (s : Setting) (w : World) (n map gate : ℕ) : Type 0 where
   pub step_is : entrance_of w (w.actors n).purse map gate ≡ Some (in_by w (w.actors n).purse map gate (way_in (w.cells gate)))
-  pub prepared : IsTreePrepared s w n (in_by w (w.actors n).purse map gate (way_in (w.cells gate)))
+  pub prepared : IsRowPrepared s w n (in_by w (w.actors n).purse map gate (way_in (w.cells gate)))
 
 module _ (s : Setting) (w : World) (g : Ghost) (i : InvWith s (view s w) g) (n gate : ℕ) where
   abbrev purse : List Spare
@@ -111,10 +111,10 @@ module _ (s : Setting) (w : World) (g : Ghost) (i : InvWith s (view s w) g) (n g
         ap (λ (zs : List ℕ). number_at first ++ (number_at second ++ zs)) (sym (append_assoc (number_at (held_for (block_in (w.cells root)) (last_spare purse))) (number_at (held_for (block_in (w.cells root)) (spare_before purse))) []))
         ∙ numbers-of-two first second new
 
-    row-is : numbers (tree_places (in_by w purse map_at gate (way_in (w.cells gate)))) ≡ map_at ∷ gate ∷ root ∷ (behind ++ new)
+    row-is : numbers (row_places (in_by w purse map_at gate (way_in (w.cells gate)))) ≡ map_at ∷ gate ∷ root ∷ (behind ++ new)
     row-is = ap (λ (zs : List ℕ). map_at ∷ gate ∷ root ∷ zs) last-row
 
-    in-prepared : IsTreePrepared s w n (in_by w purse map_at gate (way_in (w.cells gate)))
+    in-prepared : IsRowPrepared s w n (in_by w purse map_at gate (way_in (w.cells gate)))
     in-prepared =
         let leads : IsTable (w.cells map_at) d.e.worker d.e.shard (where_is.Gate gate) = table-of (w.cells map_at) d.e.worker d.e.shard (where_is.Gate gate) (map-tag s w g i d.e.worker worker-low) d.leads in
         record {
@@ -156,4 +156,4 @@ module _ (s : Setting) (w : World) (g : Ghost) (i : InvWith s (view s w) g) (n g
         ∙ sym (ap (λ (c : CellValue). Some (in_by w purse map gate (way_in c))) the-gate.1)
 
     pub entrance : IsEntrance s w n map gate
-    entrance = record { step_is = in-is; prepared = subst (λ (m : ℕ). IsTreePrepared s w n (in_by w purse m gate (way_in (w.cells gate)))) (sym d.map_is) in-prepared }
+    entrance = record { step_is = in-is; prepared = subst (λ (m : ℕ). IsRowPrepared s w n (in_by w purse m gate (way_in (w.cells gate)))) (sym d.map_is) in-prepared }

@@ -1,9 +1,8 @@
 -- The block that a step wants is free where nobody else carries a row there, as is tested.
 use Rattle.std.proofs.{Common.{◌≡◌, ◌∙◌, ℕ, ◌<◌, Bool, true, false, Option, Some, None, not, refl, sym, ap, arith}, lemmas.Bool.{and_parts, ne_eqb}, lemmas.Grind.common_steps}
 use Rattle.std.specs.{Option.{IfSome, option_map_or}, Prelude.{◌==◌, ◌||◌, option_and_then}}
-use Rattle.core_due.specs.{Ready.{IsFree, IsFreeFor, wanted_by}, Wants.{is_block_free, is_carried_at, is_drained, meets, wanted, wanted_of}}
+use Rattle.core_due.specs.{Ready.IsFree, Wants.{is_block_free, is_carried_at, is_drained, meets, wanted, wanted_of}}
 use Rattle.core_due.proofs.Below.{all_below-at}
-use Rattle.core_steps.specs.{Trees.tree_kind, declared.trees.TreeStep.TreeStep}
 use Rattle.volap_cell.proofs.Persons.{has-taken}
 use Rattle.volap_cell.specs.{Errands.{IsCarried, RowWay, block_at, taken_by, taken_of, way_of}, Ghost.Ghost, Invariant.InvWith, Setting.{Setting, actor_count}, Values.ErrandValue, View.view, World.World, declared.kind.Kind.Kind}
 
@@ -35,10 +34,10 @@ module _ (s : Setting) (w : World) (g : Ghost) (i : InvWith s (view s w) g) (n :
       keeps
 
   -- where its kind can be made, what a step wants is free
-  pub meets-free : (step : TreeStep) → wanted s w (w.actors n) (tree_kind step) ≡ wanted_by step → meets s w n (tree_kind step) ≡ true → IsFreeFor w n step
-  meets-free step wants meets_it =
-      let free = (and_parts (option_map_or (is_block_free s w n) (wanted s w (w.actors n) (tree_kind step)) true) (is_drained w (w.actors n).job) meets_it).0 in
-      none-or (wanted_by step) (IsFree w n) (is_block_free s w n) tested-free (ap (λ (o : Option ℕ). option_map_or (is_block_free s w n) o true) (sym wants) ∙ free)
+  pub meets-free : (k : Kind) (block : Option ℕ) → wanted s w (w.actors n) k ≡ block → meets s w n k ≡ true → IfSome block (IsFree w n)
+  meets-free k block wants meets_it =
+      let free = (and_parts (option_map_or (is_block_free s w n) (wanted s w (w.actors n) k) true) (is_drained w (w.actors n).job) meets_it).0 in
+      none-or block (IsFree w n) (is_block_free s w n) tested-free (ap (λ (o : Option ℕ). option_map_or (is_block_free s w n) o true) (sym wants) ∙ free)
 
 -- what an actor at a part wants for a kind
 pub wanted-at : (s : Setting) (w : World) (n : ℕ) (e : ErrandValue) (k : Kind) → (w.actors n).errand ≡ Some e → wanted s w (w.actors n) k ≡ wanted_of s w e k

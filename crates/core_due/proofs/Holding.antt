@@ -1,5 +1,5 @@
 -- Cells that an actor may hold at once, of a state that meets the invariant: each can be lent to it, and none stands twice.
-use Rattle.std.proofs.{Common.{ℕ, ◌≡◌, ◌≢◌, ◌<◌, ◌≤◌, List, [], ◌∷◌, ◌++◌, Option, Some, sym, ap, ◌∙◌, arith}}
+use Rattle.std.proofs.Common.{ℕ, ◌≡◌, ◌≢◌, ◌<◌, ◌≤◌, List, [], ◌∷◌, ◌++◌, Option, Some, sym, ap, ◌∙◌, arith}
 use Rattle.std.specs.Prelude.{IsSome, ⊤}
 use Rattle.cell_stock.specs.Stock.{cells_of}
 use Rattle.core_due.specs.Ready.{IsLendable, IsPrepared}

@@ -2,14 +2,13 @@
 use Rattle.std.proofs.{Common.{◌≡◌, ◌∙◌, ℕ, ◌<◌, inl, inr, List, [], length, Option, Some, None, get_or, refl, sym, ap, subst}, lemmas.Bool.cases_lt, lemmas.List.get_or_past}
 use Rattle.std.specs.Prelude.{⊤}
 use mathlib.Core.Path.{fun_ext}
-use Rattle.core_due.specs.{Look.{cell_at, cells_only, setting_by, world_by}, Parts.{part_due, row_due, task_due}, Ready.{IsFree, IsFreeFor, IsLendable, IsPrepared, IsStateOf, IsStepPrepared, IsTreePrepared, MayMakePart, MayMakeTree}}
-use Rattle.core_steps.specs.{Parts.{part_asks, part_places}, Places.{numbers, values_at}, Steps.{IsSame, MayMake}, Trees.{tree_asks, tree_places}, declared.parts.PartStep.PartStep, declared.trees.TreeStep.TreeStep}
+use Rattle.core_due.specs.{Look.{cell_at, cells_only, setting_by, world_by}, Parts.part_due, Ready.{IsFree, IsFreeFor, IsLendable, IsPrepared, IsRowPrepared, IsStateOf, IsStepPrepared, IsTreePrepared, MayMakePart, MayMakeRow, MayMakeTree, head_of}}
+use Rattle.core_steps.specs.{Parts.{part_asks, part_places}, Places.{numbers, values_at}, Rows.{row_asks, row_places}, Steps.{IsSame, MayMake}, Trees.{tree_asks, tree_places}, declared.parts.PartStep.PartStep, declared.rows.RowStep.RowStep, declared.trees.TreeStep.TreeStep}
 use Rattle.dim_hierarchy.specs.Dimension.{Dimension}
 use Rattle.list_words.proofs.Each.{each-map}
 use Rattle.row_ledger.specs.declared.settings.Use.{Use}
 use Rattle.volap_cell.proofs.Cells.States.{of-it, stands}
-use Rattle.volap_cell.specs.{Cells.{CellValue, cell_of}, Errands.{IsCarried, way_of}, Filling.cell_or, Setting.Setting, State.{Has, IsWorldOf}, Values.{ActorValue, ErrandValue, OfRow, Read, TaskValue, Unread, actor_of}, World.{MustKeep, World}, declared.actor.Actor.Actor, declared.cell.Cell.Cell, declared.errand.Way.Way, declared.state.State.State}
-use Rattle.volap_cell.specs.declared.errand.Way.TheVariants as way
+use Rattle.volap_cell.specs.{Cells.{CellValue, cell_of}, Errands.{IsCarried, way_of}, Filling.cell_or, Setting.Setting, State.{Has, IsWorldOf}, Values.{ActorValue, ErrandValue, actor_of}, World.{MustKeep, World}, declared.actor.Actor.Actor, declared.cell.Cell.Cell, declared.state.State.State}
 
 -- Vectors and the state that they are.
 
@@ -47,22 +46,13 @@ module _ (cells : List (Option Cell)) (actors : List (Option Actor)) (w : World)
 abbrev pub counted : (servers workers : ℕ) → Setting
 counted servers workers = record { hierarchy = []; servers = servers; workers = workers; stock_cells = 0; roles = [] }
 
-module _ (s : Setting) (w : World) (workers : ℕ) where
-  row-seen : (a : ActorValue) (e : ErrandValue) (on : Way) → row_due s w a e on ≡ row_due (counted s.servers workers) (cells_only w.cells) a e on
-  row-seen a e (way.Before height filled) = refl
-  row-seen a e (way.Carried gate block) = refl
-  row-seen a e (way.Put gate) = refl
-  row-seen a e way.Placed = refl
-
-  task-seen : (a : ActorValue) (e : ErrandValue) (t : TaskValue) → task_due s w a e t ≡ task_due (counted s.servers workers) (cells_only w.cells) a e t
-  task-seen a e (OfRow r) = row-seen a e r.way
-  task-seen a e (Unread f) = refl
-  task-seen a e (Read r) = refl
-
 module _ (h : List Dimension) (with : Use) (state : State) (s : Setting) (w : World) (of : IsStateOf h with state s w) where
+  part-told : (a : ActorValue) (e : ErrandValue) → part_due s w a e ≡ part_due (counted s.servers with.workers) (cells_only w.cells) a e
+  part-told a e = refl
+
   pub due-seen : (a : ActorValue) (e : ErrandValue) → part_due s w a e ≡ part_due (setting_by [] with) (world_by state.cells.items) a e
   due-seen a e =
-      task-seen s w with.workers a e e.task
+      part-told a e
       ∙ ap (λ (k : ℕ). part_due (counted k with.workers) (cells_only w.cells) a e) of.servers
       ∙ ap (λ (f : ℕ → CellValue). part_due (setting_by [] with) (cells_only f) a e) (cells-seen state.cells.items state.actors.items w of.is)
 
@@ -89,6 +79,9 @@ module _ (h : List Dimension) (with : Use) (state : State) (s : Setting) (w : Wo
 
   pub tree-may : (n : ℕ) (step : TreeStep) → IsTreePrepared s w n step → IsFreeFor w n step → MayMakeTree h state n step
   tree-may n step p free = may-make n (tree_places step) (tree_asks step) (IsFreeFor w n step) p free
+
+  pub row-may : (n : ℕ) (step : RowStep) → IsRowPrepared s w n step → IsFree w n (head_of step) → MayMakeRow h state n step
+  row-may n step p free = may-make n (row_places step) (row_asks step) (IsFree w n (head_of step)) p free
 
 -- Where no memory was found.
 

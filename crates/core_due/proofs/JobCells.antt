@@ -1,6 +1,6 @@
 -- Cells that the administrator's job may hold: the gate of its shard, blocks of a tree in which no insert is, those that it fills, and
 -- tables.
-use Rattle.std.proofs.{Common.{ℕ, ◌≡◌, ◌≢◌, ◌<◌, ◌≤◌, Bool, List, [], ◌∷◌, ◌++◌, Option, Some, None, inl, inr, refl, sym, ap, ◌∙◌, subst, arith, eq-eqb}}
+use Rattle.std.proofs.Common.{ℕ, ◌≡◌, ◌≢◌, ◌<◌, ◌≤◌, Bool, List, [], ◌∷◌, ◌++◌, Option, Some, None, inl, inr, refl, sym, ap, ◌∙◌, subst, arith, eq-eqb}
 use Rattle.std.specs.Prelude.{IsSome, ⊤, if◌then◌else◌}
 use Rattle.cell_stock.specs.{declared.purse.Spare.Spare}
 use Rattle.core_admin.proofs.Collecting.FrozenGates.{IsGateOf, frozen-gate, phase-gate}

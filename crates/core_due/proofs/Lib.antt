@@ -24,6 +24,8 @@ pub mod PartsReady
 pub mod PartsWant
 pub mod Picks
 pub mod PullsAsked
+pub mod Released
+pub mod ReusesPrepared
 pub mod SparesLeft
 pub mod StepsPrepared
 pub mod Tables

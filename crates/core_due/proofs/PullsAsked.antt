@@ -1,6 +1,6 @@
 -- What a pull asks is so where it is due.
 use Rattle.std.proofs.{Common.{ℕ, ◌≡◌, ◌<◌, ◌≤◌, ◌+◌, ◌-◌, ◌^◌, ◌∙◌, Bool, true, false, Option, Some, None, refl, sym, ap, subst, arith, if◌then◌else◌}, lemmas.Bool.{ltb-false, ltb-true}}
-use Rattle.std.specs.{Prelude.{nat_lt}}
+use Rattle.std.specs.Prelude.{nat_lt}
 use Rattle.core_due.specs.{Works.{pull_due}, WorksReady.{IsWorkAsked}}
 use Rattle.list_words.proofs.Elements.{Some-same}
 use Rattle.row_ledger.specs.declared.settings.How.TheVariants as how

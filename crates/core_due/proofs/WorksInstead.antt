@@ -90,8 +90,6 @@ module _ (s : Setting) (w : World) (inv : Inv s w) (n of : ℕ) (work : Work) (c
     ends = pull-ends (w.actors n).setting.servers k.server k.work (w.actors n).job k.due;
     ledger_is = k.ledger_is;
   })
-  books-instead (book.BeginInsert image at measures) k = tt
-  books-instead (book.BeginQuery desk image filter) k = tt
   books-instead (book.Ack desk image) k = tt
   books-instead (book.Answer desk) k = tt
   books-instead (book.FailUnrouted image) k = tt

@@ -70,8 +70,6 @@ module _ (h : List Dimension) (with : Use) (state : State) (s : Setting) (w : Wo
   book-instead : (work : Work) (step : BookStep) → IsInsteadPrepared s w n work (Books step) → IsInsteadReady h state n work (Books step)
   book-instead work (book.Route desk image) p = can-make (book_places (book.FailUnrouted image)) (book_asks (book.FailUnrouted image)) p
   book-instead work (book.Sync image) p = may-end NoMemory p
-  book-instead work (book.BeginInsert image at measures) p = tt
-  book-instead work (book.BeginQuery desk image filter) p = tt
   book-instead work (book.Ack desk image) p = tt
   book-instead work (book.Answer desk) p = tt
   book-instead work (book.FailUnrouted image) p = tt

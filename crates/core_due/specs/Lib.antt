@@ -7,7 +7,9 @@ pub mod Rows
 pub mod Works
 pub mod Splits
 pub mod Awaited
+pub mod Reuses
 pub mod Ready
 pub mod WorksReady
 pub mod Laws
 pub mod WorkLaws
+pub mod ReuseLaws

@@ -16,7 +16,7 @@ setting_by h with = record { hierarchy = h; servers = with.servers; workers = wi
 
 -- an actor of whom nothing is known
 abbrev pub unseen : ActorValue
-unseen = record { number = 0; role = Admin; setting = record { hierarchy = []; servers = 0; workers = 0; stock_cells = 0; roles = [] }; seen = 0; counted = false; purse = []; boxes = 0; command = None; errand = None; job = None }
+unseen = record { number = 0; role = Admin; setting = record { hierarchy = []; servers = 0; workers = 0; stock_cells = 0; roles = [] }; seen = 0; counted = false; purse = []; boxes = 0; command = None; errand = None; job = None; gone_gates = [] }
 
 -- a state of which the cells alone are known
 abbrev pub cells_only : (ℕ → CellValue) → World

@@ -3,7 +3,8 @@
 use Rattle.std.specs.{Option.IfSome, Prelude.{ℕ, ◌≡◌, ◌≢◌, ◌<◌, ⊤, true, false, List, length, Option, Some, None}}
 use Rattle.core_due.specs.{Due.{is_empty, led_to, may_enter}, Look.cell_at, Rows.row_of, Wants.meets, declared.parts.PartDue.PartDue}
 use Rattle.core_due.specs.declared.parts.PartDue.TheVariants.{Descends, Enters, Part, Tree}
-use Rattle.core_steps.specs.{Parts.{part_asks, part_places}, Places.{numbers, values_at}, Steps.MayMake, Trees.{tree_asks, tree_places}, declared.parts.PartStep.PartStep, declared.trees.TreeStep.TreeStep}
+use Rattle.core_steps.specs.{Parts.{part_asks, part_places}, Places.{numbers, values_at}, Rows.{row_asks, row_places}, Steps.MayMake, Trees.{tree_asks, tree_places}, declared.parts.PartStep.PartStep, declared.rows.RowStep.RowStep, declared.trees.TreeStep.TreeStep}
+use Rattle.core_steps.specs.declared.rows.RowStep.TheVariants as row_step
 use Rattle.core_steps.specs.declared.trees.TreeStep.TheVariants as tree
 use Rattle.dc_node.specs.Block.{IsBodyOf, is_leaf}
 use Rattle.dim_hierarchy.specs.{Dimension.Dimension, Rows.IsRowOf}
@@ -55,12 +56,15 @@ pub record IsDescending (w : World) (n block : ℕ) : Type 0 where
 
 -- Steps, of whatever state they are due in.
 
--- the block that a step wants free: that a query visits, or the head to which a row comes
+-- the block that a step wants free: that a query visits
 abbrev pub wanted_by : TreeStep → Option ℕ
 wanted_by (tree.VisitBlock block) = Some block
-wanted_by (tree.Down parent place child first second fresh) = Some child
-wanted_by (tree.EnterTree map gate root first second fresh top) = Some root
 wanted_by step = None
+
+-- or the head to which a row comes
+abbrev pub head_of : RowStep → ℕ
+head_of (row_step.Down parent place child first second fresh) = child
+head_of (row_step.EnterTree map gate root first second fresh top) = root
 
 abbrev pub IsFreeFor : World → ℕ → TreeStep → Type 0
 IsFreeFor w n step = IfSome (wanted_by step) (IsFree w n)
@@ -80,6 +84,9 @@ pub record IsPrepared (s : Setting) (w : World) (n : ℕ) (row : List (Option �
 abbrev pub IsTreePrepared : Setting → World → ℕ → TreeStep → Type 0
 IsTreePrepared s w n step = IsPrepared s w n (tree_places step) (tree_asks step s.hierarchy) (IsFreeFor w n step)
 
+abbrev pub IsRowPrepared : Setting → World → ℕ → RowStep → Type 0
+IsRowPrepared s w n step = IsPrepared s w n (row_places step) (row_asks step s.hierarchy) (IsFree w n (head_of step))
+
 abbrev pub IsStepPrepared : Setting → World → ℕ → PartStep → Type 0
 IsStepPrepared s w n step = IsPrepared s w n (part_places step) (part_asks step s.hierarchy) ⊤
 
@@ -91,8 +98,8 @@ IsPartPrepared s w n (Enters map gate) = IsEntering s w n map gate
 IsPartPrepared s w n (Descends block) = IsDescending w n block
 
 -- there is such a step, which is prepared where what it wants is free, as it is where its kind can be made
-abbrev pub HasPrepared : Setting → World → ℕ → Kind → Option TreeStep → Type 0
-HasPrepared s w n kind found = (step : TreeStep) × (found ≡ Some step) × IsTreePrepared s w n step × (meets s w n kind ≡ true → IsFreeFor w n step)
+abbrev pub HasPrepared : Setting → World → ℕ → Kind → Option RowStep → Type 0
+HasPrepared s w n kind found = (step : RowStep) × (found ≡ Some step) × IsRowPrepared s w n step × (meets s w n kind ≡ true → IsFree w n (head_of step))
 
 -- Parts.
 
@@ -115,6 +122,9 @@ MayMakePart h state n step = MayMake h state n (part_places step) (part_asks ste
 abbrev pub MayMakeTree : List Dimension → State → ℕ → TreeStep → Type 0
 MayMakeTree h state n step = MayMake h state n (tree_places step) (tree_asks step h) (λ s v m. ⊤)
 
+abbrev pub MayMakeRow : List Dimension → State → ℕ → RowStep → Type 0
+MayMakeRow h state n step = MayMake h state n (row_places step) (row_asks step h) (λ s v m. ⊤)
+
 abbrev pub IsPartReady : List Dimension → State → World → ℕ → PartDue → Type 0
 IsPartReady h state w n (Part step) = MayMakePart h state n step
 IsPartReady h state w n (Tree step) = IsFreeFor w n step → MayMakeTree h state n step
@@ -123,8 +133,8 @@ IsPartReady h state w n _ = ⊤
 -- Rows whose way is picked.
 
 -- there is such a step, and the state has its cells where what it wants is free
-abbrev pub HasReady : List Dimension → State → World → ℕ → Option TreeStep → Type 0
-HasReady h state w n found = (step : TreeStep) × (found ≡ Some step) × (IsFreeFor w n step → MayMakeTree h state n step)
+abbrev pub HasReady : List Dimension → State → World → ℕ → Option RowStep → Type 0
+HasReady h state w n found = (step : RowStep) × (found ≡ Some step) × (IsFree w n (head_of step) → MayMakeRow h state n step)
 
 -- the block and the row of the actor are of the dimensions
 pub record CanDescend (h : List Dimension) (cells : List (Option Cell)) (a : ActorValue) (block : ℕ) : Type 0 where

@@ -4,6 +4,8 @@
 mod hands;
 mod laws;
 mod parts;
+mod reuse_laws;
+mod reuses;
 mod rows;
 mod sights;
 mod spares;
@@ -14,6 +16,8 @@ mod works;
 pub use hands::awaiting;
 pub use laws::{part_kinds, parts_end, parts_prepared, parts_ready};
 pub use parts::{PartDue, ending, is_spent, last_noted, part_due};
+pub use reuse_laws::cells_can_be_reused;
+pub use reuses::reuse_due;
 pub use rows::{descend, enter};
 pub use sights::{cell_at, desk_at, events, is_leaf_at, map_at, where_at};
 pub use splits::split_of;

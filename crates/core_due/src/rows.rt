@@ -12,7 +12,7 @@ ghost use Rattle.volap_cell.specs.Values.{actor_of};
 use crate::sights::cell_at;
 use crate::spares::{last_spare, last_two};
 use cell_stock::Purse;
-use core_steps::TreeStep;
+use core_steps::RowStep;
 use dc_node::{Block, Entry};
 use dim_hierarchy::{Hierarchy, Row};
 use link_descent::pick;
@@ -68,14 +68,14 @@ fn held_for(cells: &[Option<Cell>], head: u32, cell: Option<u32>) -> Option<u32>
 }
 
 /// The step down by the entry at a place of the parent.
-fn down_by(cells: &[Option<Cell>], purse: &Purse, parent: u32, place: u8, entry: &Entry) -> TreeStep
+fn down_by(cells: &[Option<Cell>], purse: &Purse, parent: u32, place: u8, entry: &Entry) -> RowStep
     ensures { result ≡ down_by (world_by cells.now) purse.now.spares parent place entry.now }
 {
     let child = entry.child;
     let first = first_behind(cells, child, entry.stamp);
     let second = second_behind(cells, first, entry.stamp);
     let fresh = held_for(cells, child, last_spare(purse));
-    TreeStep::Down {
+    RowStep::Down {
         parent,
         place,
         child,
@@ -94,7 +94,7 @@ fn down_from(
     parent: u32,
     row: &Row,
     block: &Block,
-) -> Option<TreeStep>
+) -> Option<RowStep>
     requires body { IsBodyOf h.now block.now.body }
     requires row { IsRowOf h.now row.now }
     ensures { result ≡ down_for h.now (world_by cells.now) purse.now.spares parent row.now (entries_in block.now.body) }
@@ -116,7 +116,7 @@ fn down_at(
     purse: &Purse,
     parent: u32,
     row: &Row,
-) -> Option<TreeStep>
+) -> Option<RowStep>
     requires body { IsBodyOf h.now (block_in (cell_at cells.now parent)).body }
     requires row { IsRowOf h.now row.now }
     ensures { result ≡ down_for h.now (world_by cells.now) purse.now.spares parent row.now (entries_in (block_in (cell_at cells.now parent)).body) }
@@ -128,7 +128,7 @@ fn down_at(
 }
 
 /// The step of an actor's row down from the block, if it has one.
-fn descent(h: &Hierarchy, cells: &[Option<Cell>], actor: &Actor, block: u32) -> Option<TreeStep>
+fn descent(h: &Hierarchy, cells: &[Option<Cell>], actor: &Actor, block: u32) -> Option<RowStep>
     requires valid { CanDescend h.now cells.now (actor_of actor.now) block }
     ensures { result ≡ descent_of h.now (world_by cells.now) (actor_of actor.now) block }
 {
@@ -142,7 +142,7 @@ fn descent(h: &Hierarchy, cells: &[Option<Cell>], actor: &Actor, block: u32) -> 
 }
 
 /// The step of an actor's row down from the block at which it is carried. Takes no memory.
-pub fn descend(h: &Hierarchy, cells: &[Option<Cell>], actor: &Actor, block: u32) -> TreeStep
+pub fn descend(h: &Hierarchy, cells: &[Option<Cell>], actor: &Actor, block: u32) -> RowStep
     requires valid { CanDescend h.now cells.now (actor_of actor.now) block }
     requires there { IsSome (descent_of h.now (world_by cells.now) (actor_of actor.now) block) }
     ensures { descent_of h.now (world_by cells.now) (actor_of actor.now) block ≡ Some result }
@@ -154,7 +154,7 @@ pub fn descend(h: &Hierarchy, cells: &[Option<Cell>], actor: &Actor, block: u32)
 }
 
 /// The step in at a gate.
-fn in_by(cells: &[Option<Cell>], purse: &mut Purse, map: u32, gate_at: u32, gate: &Gate) -> TreeStep
+fn in_by(cells: &[Option<Cell>], purse: &mut Purse, map: u32, gate_at: u32, gate: &Gate) -> RowStep
     ensures step { result ≡ in_by (world_by cells.now) purse.old.spares map gate_at gate.now }
     ensures unchanged { purse.new ≡ purse.old }
 {
@@ -162,7 +162,7 @@ fn in_by(cells: &[Option<Cell>], purse: &mut Purse, map: u32, gate_at: u32, gate
     let first = first_behind(cells, root, gate.stamp);
     let second = second_behind(cells, first, gate.stamp);
     let (last, before) = last_two(purse);
-    TreeStep::EnterTree {
+    RowStep::EnterTree {
         map,
         gate: gate_at,
         root,
@@ -174,7 +174,7 @@ fn in_by(cells: &[Option<Cell>], purse: &mut Purse, map: u32, gate_at: u32, gate
 }
 
 /// The step in at the gate in a cell, of an actor with this purse, which stays as it was. Takes no memory.
-pub fn enter(cells: &[Option<Cell>], purse: &mut Purse, map: u32, gate: u32) -> TreeStep
+pub fn enter(cells: &[Option<Cell>], purse: &mut Purse, map: u32, gate: u32) -> RowStep
     requires there { IsSome (gate_in (cell_at cells.now gate)) }
     ensures step { entrance_of (world_by cells.now) purse.old.spares map gate ≡ Some result }
     ensures unchanged { purse.new ≡ purse.old }

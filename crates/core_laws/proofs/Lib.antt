@@ -3,3 +3,4 @@ pub mod QuietLedger
 pub mod SameRows
 pub mod InLine
 pub mod Meetings
+pub mod CellUses

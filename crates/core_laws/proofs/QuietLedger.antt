@@ -79,15 +79,15 @@ both-cell e of c seen beside p =
     (subst (λ (l : LedgerValue). IsQuiet l.history p.ledger_now.history) (sym (ap ledger_in p.was))
     (subst (IsQuiet p.ledger.history) (sym p.history) (quiet-both e of p.ledger.history beside)))
 
-ends-cell : (of : ℕ) (work : Work) (job : JobValue) (e : Event) (l : Change) (a b : ActorValue) → IsBeside e → Finishes of work job e l a b → IsQuietCell l
-ends-cell of (work_is.Balance balance) job e l a b beside f = pushes-cell e l 0 1 b.seen beside f.0
-ends-cell of (work_is.Insert row routed) job e l a b beside f = both-cell e of l b.seen beside f.0
-ends-cell of work_is.Query job e l a b beside f = both-cell e of l b.seen beside f.0
-ends-cell of (work_is.Sync server pulled) job e l a b beside f = both-cell e of l b.seen beside f.0
-ends-cell of work_is.Bare job e l a b beside f = both-cell e of l b.seen beside f.0
-ends-cell of (work_is.Settle pulls) job e l a b beside f = both-cell e of l b.seen beside f.0
-ends-cell of (work_is.Action act) job e l a b beside f = both-cell e of l b.seen beside f.0
-ends-cell of (work_is.Page subject there shown) job e l a b beside f = both-cell e of l b.seen beside f.0
+ends-cell : (gate of : ℕ) (work : Work) (job : JobValue) (e : Event) (l : Change) (a b : ActorValue) → IsBeside e → Finishes gate of work job e l a b → IsQuietCell l
+ends-cell gate of (work_is.Balance balance) job e l a b beside f = pushes-cell e l 0 1 b.seen beside f.0
+ends-cell gate of (work_is.Insert row routed) job e l a b beside f = both-cell e of l b.seen beside f.0
+ends-cell gate of work_is.Query job e l a b beside f = both-cell e of l b.seen beside f.0
+ends-cell gate of (work_is.Sync server pulled) job e l a b beside f = both-cell e of l b.seen beside f.0
+ends-cell gate of work_is.Bare job e l a b beside f = both-cell e of l b.seen beside f.0
+ends-cell gate of (work_is.Settle pulls) job e l a b beside f = both-cell e of l b.seen beside f.0
+ends-cell gate of (work_is.Action act) job e l a b beside f = both-cell e of l b.seen beside f.0
+ends-cell gate of (work_is.Page subject there shown) job e l a b beside f = both-cell e of l b.seen beside f.0
 
 -- so is that of each cell of the state
 pub quiet-at : (cs : List Change) (cells : ℕ → CellValue) → AreAt cells cs → Each IsQuietCell cs → (y : ℕ) → IsQuiet (ledger_in (cells y)).history (ledger_in (put cs cells y)).history
@@ -113,7 +113,7 @@ split-cells h m x l r reg c led a b d left right = (
           turns-cell reg _ _ d.registry_was d.registry_is refl,
           (
             turns-cell c _ _ d.turns_stock.was d.turns_stock.is refl,
-            (ends-cell d.of d.work d.job _ led a b (split-beside d.of d.job.shard d.stock.ids (d.stock.ids + 1)) d.finishes, tt),
+            (ends-cell x.number d.of d.work d.job _ led a b (split-beside d.of d.job.shard d.stock.ids (d.stock.ids + 1)) d.finishes, tt),
           ),
         ),
       ),
@@ -132,7 +132,7 @@ move-cells h maps x g reg c led a b d new =
           turns-cell reg _ _ d.registry_was d.registry_is refl,
           (
             turns-cell c _ _ d.turns_stock.was d.turns_stock.is refl,
-            (ends-cell d.of d.work d.job _ led a b (move-beside d.of d.job.shard d.to) d.finishes, tt),
+            (ends-cell x.number d.of d.work d.job _ led a b (move-beside d.of d.job.shard d.to) d.finishes, tt),
           ),
         ),
       ),

@@ -1,3 +1,4 @@
+pub mod CellUse
 pub mod Finishing
 pub mod Lines
 pub mod Meeting

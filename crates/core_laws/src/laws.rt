@@ -1,5 +1,6 @@
-//! Laws of rows and of queries. There is nothing to do at run time.
+//! Laws of rows, of queries and of cells. There is nothing to do at run time.
 
+ghost use Rattle.core_laws.specs.CellUse.{CellUseLaw};
 ghost use Rattle.core_laws.specs.Finishing.{FinishLaw};
 ghost use Rattle.core_laws.specs.Lines.{LineLaw};
 ghost use Rattle.core_laws.specs.Meeting.{MeetLaw};
@@ -21,4 +22,10 @@ pub fn acknowledged_rows_stay_in_line()
 /// other of these and is not counted.
 pub fn queries_meet_each_row_once()
     ensures { MeetLaw }
+{}
+
+/// Where nobody has spares or a job, and no gate is left of a shard that is gone, the free cells and those of the gates and
+/// trees of the shards that stand are together all cells of the stock, each once, and no others.
+pub fn each_cell_has_one_use()
+    ensures { CellUseLaw }
 {}

@@ -387,4 +387,5 @@ module _ (s : Setting) (v : View) (g : Ghost) (i : InvWith s v g) (readers : Rea
       querying = back-querying;
       working = i.working;
       balancing = i.balancing;
+      reusing = i.reusing;
     }

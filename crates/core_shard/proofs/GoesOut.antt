@@ -450,4 +450,5 @@ module _ (s : Setting) (v : View) (g : Ghost) (i : InvWith s v g) (n server : â„
     querying = out-querying;
     working = i.working;
     balancing = i.balancing;
+    reusing = i.reusing;
   }

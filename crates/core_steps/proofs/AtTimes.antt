@@ -2,8 +2,8 @@
 -- is there.
 use Rattle.std.proofs.{Common.{ℕ, ◌≡◌, ◌∙◌, Bool, true, false, List, [], ◌∷◌, ◌++◌, map, Option, Some, None, is_some, append_assoc, append-nil, refl, sym, ap, subst}, lemmas.List.{map-append}}
 use Rattle.std.specs.Prelude.{option_map}
-use Rattle.core_steps.specs.{Places.{Fill, held, swap_at, thing_at, things, two_at}, Steps.Went, Trees.{number_of, tree_kind, tree_places}, declared.step.Others.Others, declared.trees.TreeStep.TreeStep}
-use Rattle.core_steps.specs.declared.trees.TreeStep.TheVariants as tree
+use Rattle.core_steps.specs.{Places.{Fill, held, swap_at, thing_at, things, two_at}, Steps.Went, Rows.{number_of, row_kind, row_places}, declared.step.Others.Others, declared.rows.RowStep.RowStep}
+use Rattle.core_steps.specs.declared.rows.RowStep.TheVariants as row_step
 use Rattle.core_tree.specs.Descent.{two_if}
 use Rattle.dim_hierarchy.specs.Dimension.{Dimension}
 use Rattle.volap_cell.specs.{Cells.{cell_of}, Setting.Setting, State.{changes_of, still}, Steps.{IsHere, Makes}, Values.ActorValue, World.{Change, World, change, change_if, held as held_still, held_if}, declared.cell.Cell.Cell}
@@ -57,22 +57,22 @@ pinned-went (Some g) None some is made = absurd (cc)
 pinned-went (Some g) (Some g2) some is made = record { makes = made; sight = λ s w n sees. tt }
 
 -- A row goes down.
-module _ (h : List Dimension) (step : TreeStep) (parent_at place child_at : ℕ) (p q r : Option ℕ) (is : step ≡ tree.Down parent_at place child_at p q r)
-    (first second : Option Cell) (parent child : Cell) (o : Others) (one : first ≡ Some parent) (two : second ≡ Some child) (fill : Fill (tree_places step) (held first second o)) (a : ActorValue) where
+module _ (h : List Dimension) (step : RowStep) (parent_at place child_at : ℕ) (p q r : Option ℕ) (is : step ≡ row_step.Down parent_at place child_at p q r)
+    (first second : Option Cell) (parent child : Cell) (o : Others) (one : first ≡ Some parent) (two : second ≡ Some child) (fill : Fill (row_places step) (held first second o)) (a : ActorValue) where
   abbrev row : List (Option ℕ)
-  row = tree_places (tree.Down parent_at place child_at p q r)
+  row = row_places (row_step.Down parent_at place child_at p q r)
 
   -- what is known of the cells, with the step and the first two cells at hand
-  known : (P : List (Option ℕ) → List (Option Cell) → Type 0) → P (tree_places step) (held first second o) → P row (held (Some parent) (Some child) o)
-  known P k = subst (λ (s : TreeStep). P (tree_places s) (held (Some parent) (Some child) o)) is
-      (subst (λ (c : Option Cell). P (tree_places step) (held (Some parent) c o)) two (subst (λ (c : Option Cell). P (tree_places step) (held c second o)) one k))
+  known : (P : List (Option ℕ) → List (Option Cell) → Type 0) → P (row_places step) (held first second o) → P row (held (Some parent) (Some child) o)
+  known P k = subst (λ (s : RowStep). P (row_places s) (held (Some parent) (Some child) o)) is
+      (subst (λ (c : Option Cell). P (row_places step) (held (Some parent) c o)) two (subst (λ (c : Option Cell). P (row_places step) (held c second o)) one k))
 
   filled : (is_some o.third ≡ is_some p) × (is_some o.fourth ≡ is_some q) × (is_some o.fifth ≡ is_some r)
   filled =
       let all : ◌≡◌ {A = List Bool} (true ∷ true ∷ is_some o.third ∷ is_some o.fourth ∷ is_some o.fifth ∷ is_some o.sixth ∷ is_some o.seventh ∷ []) (true ∷ true ∷ is_some p ∷ is_some q ∷ is_some r ∷ false ∷ false ∷ []) = known Fill fill in
       (cc, cc, cc)
 
-  pub down-here : (x y z : ℕ) → x ≡ number_of p → y ≡ number_of q → z ≡ number_of r → IsHere h (still (things (tree_places step) (held first second o))) a
+  pub down-here : (x y z : ℕ) → x ≡ number_of p → y ≡ number_of q → z ≡ number_of r → IsHere h (still (things (row_places step) (held first second o))) a
       → IsHere h (held_still parent_at (cell_of parent) ∷ held_still child_at (cell_of child) ∷ two_if x (option_map cell_of o.third) y (option_map cell_of o.fourth) ++ held_if z (option_map cell_of o.fifth)) a
   down-here x y z ex ey ez here = subst (λ (cs : List Change). IsHere h (held_still parent_at (cell_of parent) ∷ held_still child_at (cell_of child) ∷ cs) a)
       (three-of (λ (t : ℕ × Cell). change t.0 (cell_of t.1) (cell_of t.1)) (thing_at p o.third) (thing_at q o.fourth) (thing_at r o.fifth) _ _ _ (still-at p o.third x ex filled.0) (still-at q o.fourth y ey filled.1) (still-at r o.fifth z ez filled.2))
@@ -82,7 +82,7 @@ module _ (h : List Dimension) (step : TreeStep) (parent_at place child_at : ℕ)
       → Makes h Down (change parent_at (cell_of parent) (cell_of parent_now) ∷ change child_at (cell_of child) (cell_of child_now)
       ∷ (change_if x (option_map cell_of o.third) (option_map cell_of o_now.third) ++ change_if y (option_map cell_of o.fourth) (option_map cell_of o_now.fourth))
       ++ change_if z (option_map cell_of o.fifth) (option_map cell_of o_now.fifth)) a b
-      → Went h (tree_kind step) Sees (tree_places step) (held first second o) (held (Some parent_now) (Some child_now) o_now) a b
+      → Went h (row_kind step) Sees (row_places step) (held first second o) (held (Some parent_now) (Some child_now) o_now) a b
   down-went Sees x y z ex ey ez parent_now child_now o_now b made =
       let went : Went h Down Sees row (held (Some parent) (Some child) o) (held (Some parent_now) (Some child_now) o_now) a b = record {
         makes = subst (λ (cs : List Change). Makes h Down (change parent_at (cell_of parent) (cell_of parent_now) ∷ change child_at (cell_of child) (cell_of child_now) ∷ cs) a b)
@@ -90,30 +90,30 @@ module _ (h : List Dimension) (step : TreeStep) (parent_at place child_at : ℕ)
             (changes-at p o.third o_now.third x ex filled.0) (changes-at q o.fourth o_now.fourth y ey filled.1) (changes-at r o.fifth o_now.fifth z ez filled.2))) made;
         sight = λ s w n sees. tt;
       } in
-      subst (λ (s : TreeStep). Went h (tree_kind s) Sees (tree_places s) (held first second o) (held (Some parent_now) (Some child_now) o_now) a b) (sym is)
+      subst (λ (s : RowStep). Went h (row_kind s) Sees (row_places s) (held first second o) (held (Some parent_now) (Some child_now) o_now) a b) (sym is)
       (subst (λ (c : Option Cell). Went h Down Sees row (held c second o) (held (Some parent_now) (Some child_now) o_now) a b) (sym one)
       (subst (λ (c : Option Cell). Went h Down Sees row (held (Some parent) c o) (held (Some parent_now) (Some child_now) o_now) a b) (sym two) went))
 
 -- A row comes in at a gate.
-module _ (h : List Dimension) (step : TreeStep) (map_at gate_at root_at : ℕ) (p q r t : Option ℕ) (is : step ≡ tree.EnterTree map_at gate_at root_at p q r t)
-    (first second : Option Cell) (table gate root : Cell) (o : Others) (one : first ≡ Some table) (two : second ≡ Some gate) (three : o.third ≡ Some root) (fill : Fill (tree_places step) (held first second o)) (a : ActorValue) where
+module _ (h : List Dimension) (step : RowStep) (map_at gate_at root_at : ℕ) (p q r t : Option ℕ) (is : step ≡ row_step.EnterTree map_at gate_at root_at p q r t)
+    (first second : Option Cell) (table gate root : Cell) (o : Others) (one : first ≡ Some table) (two : second ≡ Some gate) (three : o.third ≡ Some root) (fill : Fill (row_places step) (held first second o)) (a : ActorValue) where
   abbrev at : List (Option ℕ)
-  at = tree_places (tree.EnterTree map_at gate_at root_at p q r t)
+  at = row_places (row_step.EnterTree map_at gate_at root_at p q r t)
 
   abbrev rest : Others → List (Option Cell)
   rest x = x.fourth ∷ x.fifth ∷ x.sixth ∷ x.seventh ∷ []
 
-  seen : (P : List (Option ℕ) → List (Option Cell) → Type 0) → P (tree_places step) (held first second o) → P at (Some table ∷ Some gate ∷ Some root ∷ rest o)
-  seen P k = subst (λ (s : TreeStep). P (tree_places s) (Some table ∷ Some gate ∷ Some root ∷ rest o)) is
-      (subst (λ (c : Option Cell). P (tree_places step) (Some table ∷ Some gate ∷ c ∷ rest o)) three
-      (subst (λ (c : Option Cell). P (tree_places step) (held (Some table) c o)) two (subst (λ (c : Option Cell). P (tree_places step) (held c second o)) one k)))
+  seen : (P : List (Option ℕ) → List (Option Cell) → Type 0) → P (row_places step) (held first second o) → P at (Some table ∷ Some gate ∷ Some root ∷ rest o)
+  seen P k = subst (λ (s : RowStep). P (row_places s) (Some table ∷ Some gate ∷ Some root ∷ rest o)) is
+      (subst (λ (c : Option Cell). P (row_places step) (Some table ∷ Some gate ∷ c ∷ rest o)) three
+      (subst (λ (c : Option Cell). P (row_places step) (held (Some table) c o)) two (subst (λ (c : Option Cell). P (row_places step) (held c second o)) one k)))
 
   others : (is_some o.fourth ≡ is_some p) × (is_some o.fifth ≡ is_some q) × (is_some o.sixth ≡ is_some r) × (is_some o.seventh ≡ is_some t)
   others =
       let all : ◌≡◌ {A = List Bool} (true ∷ true ∷ true ∷ is_some o.fourth ∷ is_some o.fifth ∷ is_some o.sixth ∷ is_some o.seventh ∷ []) (true ∷ true ∷ true ∷ is_some p ∷ is_some q ∷ is_some r ∷ is_some t ∷ []) = seen Fill fill in
       (cc, cc, cc, cc)
 
-  pub enter-here : (x y z u : ℕ) → x ≡ number_of p → y ≡ number_of q → z ≡ number_of r → u ≡ number_of t → IsHere h (still (things (tree_places step) (held first second o))) a
+  pub enter-here : (x y z u : ℕ) → x ≡ number_of p → y ≡ number_of q → z ≡ number_of r → u ≡ number_of t → IsHere h (still (things (row_places step) (held first second o))) a
       → IsHere h (held_still map_at (cell_of table) ∷ held_still gate_at (cell_of gate) ∷ held_still root_at (cell_of root)
       ∷ two_if x (option_map cell_of o.fourth) y (option_map cell_of o.fifth) ++ two_if z (option_map cell_of o.sixth) u (option_map cell_of o.seventh)) a
   enter-here x y z u ex ey ez eu here = subst (λ (cs : List Change). IsHere h (held_still map_at (cell_of table) ∷ held_still gate_at (cell_of gate) ∷ held_still root_at (cell_of root) ∷ cs) a)
@@ -125,7 +125,7 @@ module _ (h : List Dimension) (step : TreeStep) (map_at gate_at root_at : ℕ) (
       → Makes h EnterTree (change map_at (cell_of table) (cell_of table_now) ∷ change gate_at (cell_of gate) (cell_of gate_now) ∷ change root_at (cell_of root) (cell_of root_now)
       ∷ (change_if x (option_map cell_of o.fourth) (option_map cell_of o_now.fourth) ++ change_if y (option_map cell_of o.fifth) (option_map cell_of o_now.fifth))
       ++ (change_if z (option_map cell_of o.sixth) (option_map cell_of o_now.sixth) ++ change_if u (option_map cell_of o.seventh) (option_map cell_of o_now.seventh))) a b
-      → Went h (tree_kind step) Sees (tree_places step) (held first second o) (held (Some table_now) (Some gate_now) o_now) a b
+      → Went h (row_kind step) Sees (row_places step) (held first second o) (held (Some table_now) (Some gate_now) o_now) a b
   enter-went Sees x y z u ex ey ez eu table_now gate_now root_now o_now third_now b made =
       let went : Went h EnterTree Sees at (Some table ∷ Some gate ∷ Some root ∷ rest o) (Some table_now ∷ Some gate_now ∷ Some root_now ∷ rest o_now) a b = record {
         makes = subst (λ (cs : List Change). Makes h EnterTree (change map_at (cell_of table) (cell_of table_now) ∷ change gate_at (cell_of gate) (cell_of gate_now) ∷ change root_at (cell_of root) (cell_of root_now) ∷ cs) a b)
@@ -133,7 +133,7 @@ module _ (h : List Dimension) (step : TreeStep) (map_at gate_at root_at : ℕ) (
             (changes-at p o.fourth o_now.fourth x ex others.0) (changes-at q o.fifth o_now.fifth y ey others.1) (changes-at r o.sixth o_now.sixth z ez others.2) (changes-at t o.seventh o_now.seventh u eu others.3))) made;
         sight = λ s w n sees. tt;
       } in
-      subst (λ (s : TreeStep). Went h (tree_kind s) Sees (tree_places s) (held first second o) (held (Some table_now) (Some gate_now) o_now) a b) (sym is)
+      subst (λ (s : RowStep). Went h (row_kind s) Sees (row_places s) (held first second o) (held (Some table_now) (Some gate_now) o_now) a b) (sym is)
       (subst (λ (c : Option Cell). Went h EnterTree Sees at (held c second o) (held (Some table_now) (Some gate_now) o_now) a b) (sym one)
       (subst (λ (c : Option Cell). Went h EnterTree Sees at (held (Some table) c o) (held (Some table_now) (Some gate_now) o_now) a b) (sym two)
       (subst (λ (c : Option Cell). Went h EnterTree Sees at (Some table ∷ Some gate ∷ c ∷ rest o) (held (Some table_now) (Some gate_now) o_now) a b) (sym three)

@@ -9,3 +9,4 @@ pub mod AtTimes
 pub mod Quiet
 pub mod BookTold
 pub mod JobMade
+pub mod ReuseMade

@@ -1,6 +1,6 @@
--- What the steps of inserts, queries and pulls are, where their cells are, what they ask, and what they tell.
+-- What the steps of inserts, queries and pulls that have begun are, where their cells are, what they ask, and what they tell.
 use Rattle.std.specs.Prelude.{ℕ, ◌≡◌, ⊤, false, List, ◌∷◌, Option, Some, Bool, true}
-use Rattle.core_image.specs.{Asking.{CanAnswer, CanBeginQuery}, Due.CanAck, NotesDue.{CanBeginInsert, CanFailQuery, CanFailRouted, CanFailUnrouted}, Pulling.CanSync, Routing.CanRoute, Told.{Tells, asked_by, begun_by}}
+use Rattle.core_image.specs.{Asking.CanAnswer, Due.CanAck, NotesDue.{CanFailQuery, CanFailRouted, CanFailUnrouted}, Pulling.CanSync, Routing.CanRoute}
 use Rattle.core_steps.specs.Places.{two_at, three_at}
 use Rattle.core_steps.specs.declared.books.BookStep.{BookStep}
 use Rattle.core_steps.specs.declared.books.BookStep.TheVariants as book
@@ -10,8 +10,6 @@ use Rattle.volap_cell.specs.{Cells.{CellValue, ledger_in}, Setting.{ledger_cell,
 use Rattle.volap_cell.specs.declared.kind.Kind.TheVariants as kind
 
 abbrev pub book_kind : BookStep → Kind
-book_kind (book.BeginInsert image at measures) = kind.BeginInsert
-book_kind (book.BeginQuery desk image filter) = kind.BeginQuery
 book_kind (book.Route desk image) = kind.Route
 book_kind (book.Ack desk image) = kind.Ack
 book_kind (book.Answer desk) = kind.Answer
@@ -21,8 +19,6 @@ book_kind (book.FailRouted desk image) = kind.Note
 book_kind (book.FailQuery desk) = kind.Note
 
 abbrev pub book_places : BookStep → List (Option ℕ)
-book_places (book.BeginInsert image at measures) = two_at image ledger_cell
-book_places (book.BeginQuery desk image filter) = three_at desk image ledger_cell
 book_places (book.Route desk image) = two_at desk image
 book_places (book.Ack desk image) = three_at desk image ledger_cell
 book_places (book.Answer desk) = two_at desk ledger_cell
@@ -32,8 +28,6 @@ book_places (book.FailRouted desk image) = three_at desk image ledger_cell
 book_places (book.FailQuery desk) = two_at desk ledger_cell
 
 abbrev pub book_asks : BookStep → List Dimension → List (Option CellValue) → ActorValue → Type 0
-book_asks (book.BeginInsert image_at at measures) h (Some image ∷ Some ledger ∷ _) a = CanBeginInsert h at image ledger a
-book_asks (book.BeginQuery desk_at image_at filter) h (Some desk ∷ Some image ∷ Some ledger ∷ _) a = CanBeginQuery h desk image ledger a filter
 book_asks (book.Route desk_at image_at) h (Some desk ∷ Some image ∷ _) a = CanRoute desk image a
 book_asks (book.Ack desk_at image_at) h (Some desk ∷ Some image ∷ Some ledger ∷ _) a = CanAck desk image ledger a
 book_asks (book.Answer desk_at) h (Some desk ∷ Some ledger ∷ _) a = CanAnswer desk ledger a
@@ -50,8 +44,6 @@ abbrev pub EndsIn : CellValue → CellValue → Type 0
 EndsIn ledger ledger_now = (e : Event) × (is_beginning e ≡ false) × ((ledger_in ledger_now).history ≡ e ∷ (ledger_in ledger).history)
 
 abbrev pub book_tells : BookStep → ActorValue → (was now : List (Option CellValue)) → Type 0
-book_tells (book.BeginInsert image_at at measures) a (_ ∷ Some ledger ∷ _) (_ ∷ Some ledger_now ∷ _) = Tells (begun_by at measures) a ledger ledger_now
-book_tells (book.BeginQuery desk_at image_at filter) a (_ ∷ _ ∷ Some ledger ∷ _) (_ ∷ _ ∷ Some ledger_now ∷ _) = Tells (asked_by filter) a ledger ledger_now
 book_tells (book.Ack desk_at image_at) a (_ ∷ _ ∷ Some ledger ∷ _) (_ ∷ _ ∷ Some ledger_now ∷ _) = EndsIn ledger ledger_now
 book_tells (book.Answer desk_at) a (_ ∷ Some ledger ∷ _) (_ ∷ Some ledger_now ∷ _) = EndsIn ledger ledger_now
 book_tells (book.Sync image_at) a (_ ∷ _ ∷ Some ledger ∷ _) (_ ∷ _ ∷ Some ledger_now ∷ _) = EndsIn ledger ledger_now
@@ -62,8 +54,6 @@ book_tells step a was now = ⊤
 
 -- whether it may find no memory
 abbrev pub book_may_fail : BookStep → Bool
-book_may_fail (book.BeginInsert image at measures) = true
-book_may_fail (book.BeginQuery desk image filter) = true
 book_may_fail (book.Route desk image) = true
 book_may_fail (book.Sync image) = true
 book_may_fail step = false

@@ -1,7 +1,10 @@
 pub mod Places
 pub mod Steps
 pub mod Trees
+pub mod Rows
 pub mod Parts
+pub mod Begins
 pub mod Books
 pub mod Notes
 pub mod Jobs
+pub mod Reuses

@@ -1,11 +1,11 @@
--- What the steps of rows and queries at gates and blocks are, where their cells are, and what they ask.
-use Rattle.std.specs.Prelude.{ℕ, List, [], ◌∷◌, Option, Some, None, Bool, true, false}
+-- What the steps of rows and queries at a gate or a block are, where their cells are, and what they ask.
+use Rattle.std.specs.Prelude.{ℕ, List, ◌∷◌, Option, Some, Bool, true, false}
 use Rattle.core_steps.specs.Places.{one_at, two_at}
 use Rattle.core_steps.specs.declared.trees.TreeStep.{TreeStep}
 use Rattle.core_steps.specs.declared.trees.TreeStep.TheVariants as tree
-use Rattle.core_tree.specs.{Descent.{CanDown, CanEnterTree, two_if}, Due.CanPutInLeaf, DueAtGates.{CanEnterQueue, CanGiveBack, CanLeaveTree, CanRefill}, ReadDue.{CanBlockVisit, CanGateRead}}
+use Rattle.core_tree.specs.{Due.CanPutInLeaf, DueAtGates.{CanEnterQueue, CanGiveBack, CanLeaveTree, CanRefill}, ReadDue.{CanBlockVisit, CanGateRead}}
 use Rattle.dim_hierarchy.specs.Dimension.{Dimension}
-use Rattle.volap_cell.specs.{Cells.CellValue, Setting.stock_cell, Values.ActorValue, World.held_if, declared.kind.Kind.Kind}
+use Rattle.volap_cell.specs.{Cells.CellValue, Setting.stock_cell, Values.ActorValue, declared.kind.Kind.Kind}
 use Rattle.volap_cell.specs.declared.kind.Kind.TheVariants as kind
 
 abbrev pub tree_kind : TreeStep → Kind
@@ -16,8 +16,6 @@ tree_kind (tree.ReadGate map gate) = kind.GateRead
 tree_kind (tree.VisitBlock block) = kind.BlockVisit
 tree_kind tree.Refill = kind.Refill
 tree_kind tree.GiveBack = kind.Refill
-tree_kind (tree.Down parent place child first second fresh) = kind.Down
-tree_kind (tree.EnterTree map gate root first second fresh top) = kind.EnterTree
 
 abbrev pub tree_places : TreeStep → List (Option ℕ)
 tree_places (tree.PutInLeaf leaf) = one_at leaf
@@ -27,13 +25,6 @@ tree_places (tree.ReadGate map gate) = two_at map gate
 tree_places (tree.VisitBlock block) = one_at block
 tree_places tree.Refill = one_at stock_cell
 tree_places tree.GiveBack = one_at stock_cell
-tree_places (tree.Down parent place child first second fresh) = Some parent ∷ Some child ∷ first ∷ second ∷ fresh ∷ None ∷ None ∷ []
-tree_places (tree.EnterTree map gate root first second fresh top) = Some map ∷ Some gate ∷ Some root ∷ first ∷ second ∷ fresh ∷ top ∷ []
-
--- the number of a cell that is held at times; where it isn't held, any number serves
-abbrev pub number_of : Option ℕ → ℕ
-number_of None = 0
-number_of (Some y) = y
 
 abbrev pub tree_asks : TreeStep → List Dimension → List (Option CellValue) → ActorValue → Type 0
 tree_asks (tree.PutInLeaf leaf_at) h (Some leaf ∷ _) a = CanPutInLeaf leaf_at leaf a
@@ -43,10 +34,6 @@ tree_asks (tree.ReadGate map_at gate_at) h (Some map ∷ Some gate ∷ _) a = Ca
 tree_asks (tree.VisitBlock block_at) h (Some block ∷ _) a = CanBlockVisit block_at a
 tree_asks tree.Refill h (Some stock ∷ _) a = CanRefill stock a
 tree_asks tree.GiveBack h (Some stock ∷ _) a = CanGiveBack stock a
-tree_asks (tree.Down parent_at place child_at first_at second_at fresh_at) h (Some parent ∷ Some child ∷ first ∷ second ∷ fresh ∷ _) a =
-    CanDown h parent_at parent place child_at child (two_if (number_of first_at) first (number_of second_at) second) (held_if (number_of fresh_at) fresh) a
-tree_asks (tree.EnterTree map_at gate_at root_at first_at second_at fresh_at top_at) h (Some map ∷ Some gate ∷ Some root ∷ first ∷ second ∷ fresh ∷ top ∷ _) a =
-    CanEnterTree h map_at map gate_at gate root_at root (two_if (number_of first_at) first (number_of second_at) second) (two_if (number_of fresh_at) fresh (number_of top_at) top) a
 tree_asks step h held a = ⊥
 
 -- whether it may find no memory

@@ -3,56 +3,27 @@
 use crate::lending::lent;
 use crate::places::{ledger_place, registry_place};
 use crate::step::{CellStep, Others, Places};
-use dim_hierarchy::{Coord, Filter, Hierarchy, Measures};
+use dim_hierarchy::Hierarchy;
 use std::alloc::{AllocError, Global};
 use volap_cell::{Actor, Cell};
 
 /// A step of an actor's insert, query or pull, with the desk or the image of a server.
 #[derive(Drop)]
 pub enum BookStep {
-    /// It begins an insert of a row at this coordinate.
-    BeginInsert {
-        image: u32,
-        at: Coord,
-        measures: Measures,
-    },
-    /// It begins a query, whose parts are laid on the empty desk.
-    BeginQuery {
-        desk: u32,
-        image: u32,
-        filter: Filter,
-    },
     /// The part of its insert is laid on the empty desk.
-    Route {
-        desk: u32,
-        image: u32,
-    },
+    Route { desk: u32, image: u32 },
     /// Its insert, whose part is placed, is acknowledged.
-    Ack {
-        desk: u32,
-        image: u32,
-    },
+    Ack { desk: u32, image: u32 },
     /// Its query, whose parts come to a sum, is answered.
-    Answer {
-        desk: u32,
-    },
+    Answer { desk: u32 },
     /// The pull that is due for its command is made.
-    Sync {
-        image: u32,
-    },
+    Sync { image: u32 },
     /// Its insert, of which no part is laid yet, fails for want of memory.
-    FailUnrouted {
-        image: u32,
-    },
+    FailUnrouted { image: u32 },
     /// Its insert, whose part found no memory, fails.
-    FailRouted {
-        desk: u32,
-        image: u32,
-    },
+    FailRouted { desk: u32, image: u32 },
     /// Its query, of which a part found no memory, fails.
-    FailQuery {
-        desk: u32,
-    },
+    FailQuery { desk: u32 },
 }
 
 impl CellStep for BookStep {
@@ -74,16 +45,12 @@ impl CellStep for BookStep {
     fn places(&self) -> Places {
         let ledger = ledger_place();
         match self {
-            BookStep::BeginInsert { image, .. } | BookStep::FailUnrouted { image } => {
-                Places::Two(*image, ledger)
-            }
+            BookStep::FailUnrouted { image } => Places::Two(*image, ledger),
             BookStep::Route { desk, image } => Places::Two(*desk, *image),
             BookStep::Answer { desk } | BookStep::FailQuery { desk } => {
                 Places::Two(*desk, ledger)
             }
-            BookStep::BeginQuery { desk, image, .. }
-            | BookStep::Ack { desk, image }
-            | BookStep::FailRouted { desk, image } => {
+            BookStep::Ack { desk, image } | BookStep::FailRouted { desk, image } => {
                 Places::Many(*desk, *image, [Some(ledger), None, None, None, None])
             }
             BookStep::Sync { image } => Places::Many(
@@ -106,31 +73,6 @@ impl CellStep for BookStep {
         let ledger_at = ledger_place();
         let (first, second) = (lent(first), lent(second));
         match self {
-            BookStep::BeginInsert {
-                image,
-                at,
-                measures,
-            } => core_image::begin_insert(
-                alloc, h, image, first, ledger_at, second, actor, at, measures,
-            ),
-            BookStep::BeginQuery {
-                desk,
-                image,
-                filter,
-            } => {
-                core_image::begin_query(
-                    alloc,
-                    h,
-                    desk,
-                    first,
-                    image,
-                    second,
-                    ledger_at,
-                    lent(&mut others.third),
-                    actor,
-                    filter,
-                )
-            }
             BookStep::Route { desk, image } => {
                 core_image::route(alloc, h, desk, first, image, second, actor)
             }

@@ -1,6 +1,6 @@
 //! The driver of a step in a state that one thread holds.
-ghost use Rattle.std.specs.Prelude.{◌≡◌, ◌≢◌, ◌<◌, false, length, None, IsOk, OnErr, OnOk, slice_index_or, slice_set};
-ghost use Rattle.core_steps.specs.Places.{Fill, held_at, things, values};
+ghost use Rattle.std.specs.Prelude.{◌≡◌, ◌≢◌, ◌<◌, ◌∷◌, false, length, Some, None, IsOk, OnErr, OnOk, slice_index_or, slice_set};
+ghost use Rattle.core_steps.specs.Places.{Fill, held_at, things, two_at, values};
 ghost use Rattle.core_steps.specs.Steps.{IsFurther, IsSame, IsSound, IsSpared, IsTold, MayMake, Went};
 ghost use Rattle.volap_cell.specs.State.{still};
 ghost use Rattle.volap_cell.specs.Steps.{IsHere};
@@ -30,42 +30,94 @@ pub fn make<S: CellStep>(
     ensures sure { S.may_fail step ≡ false → IsOk result }
     ensures same { OnErr result (IsSame state.old state.new) }
 {
-    let actor = lent(&mut state.actors[number]);
     match step.places() {
-        Places::One(first) => step.run(
-            alloc,
-            h,
-            &mut state.cells[first as usize],
-            &mut None,
-            &mut Others::none(),
-            actor,
-        ),
-        Places::Two(first, second) => run_two(
-            alloc,
-            h,
-            &mut state.cells,
-            first,
-            second,
-            &mut Others::none(),
-            actor,
-            step,
-        ),
-        Places::Many(first, second, rest) => {
-            let mut others = lift(&mut state.cells, &rest);
-            let made = run_two(
+        Places::One(first) => {
+            let actor = lent(&mut state.actors[number]);
+            step.run(
                 alloc,
                 h,
-                &mut state.cells,
-                first,
-                second,
-                &mut others,
+                &mut state.cells[first as usize],
+                &mut None,
+                &mut Others::none(),
                 actor,
-                step,
-            );
-            put(&mut state.cells, &rest, others);
-            made
+            )
         }
+        Places::Two(first, second) => make_two(alloc, h, state, number, first, second, step),
+        Places::Many(first, second, rest) => make_many(
+            alloc, h, state, number, first, second, &rest, step,
+        ),
     }
+}
+
+/// Makes a step that holds two cells. Never inlined, nor is the next one, as each pays at each call for the room
+/// of what it holds.
+#[inline(never)]
+fn make_two<S: CellStep>(
+    alloc: Global,
+    h: &Hierarchy,
+    state: &mut State,
+    number: usize,
+    first: u32,
+    second: u32,
+    step: S,
+) -> Result<(), AllocError>
+    requires sound { IsSound h.now state.old }
+    requires may { MayMake h.now state.old number (S.places step) (S.asks step h.now) (S.sees step) }
+    requires named { two_at first second ≡ S.places step }
+    ensures further { OnOk result (IsFurther h.now (S.kind step) number state.old state.new) }
+    ensures told { OnOk result (IsTold state.old state.new number (S.places step) (S.tells step)) }
+    ensures spared { OnOk result (IsSpared state.old state.new (S.places step)) }
+    ensures sure { S.may_fail step ≡ false → IsOk result }
+    ensures same { OnErr result (IsSame state.old state.new) }
+{
+    let actor = lent(&mut state.actors[number]);
+    run_two(
+        alloc,
+        h,
+        &mut state.cells,
+        first,
+        second,
+        &mut Others::none(),
+        actor,
+        step,
+    )
+}
+
+/// Makes a step that holds more than two cells: the others are moved out, and put back.
+#[inline(never)]
+fn make_many<S: CellStep>(
+    alloc: Global,
+    h: &Hierarchy,
+    state: &mut State,
+    number: usize,
+    first: u32,
+    second: u32,
+    rest: &[Option<u32>; 5],
+    step: S,
+) -> Result<(), AllocError>
+    requires sound { IsSound h.now state.old }
+    requires may { MayMake h.now state.old number (S.places step) (S.asks step h.now) (S.sees step) }
+    requires named { (Some first ∷ Some second ∷ rest.now) ≡ S.places step }
+    ensures further { OnOk result (IsFurther h.now (S.kind step) number state.old state.new) }
+    ensures told { OnOk result (IsTold state.old state.new number (S.places step) (S.tells step)) }
+    ensures spared { OnOk result (IsSpared state.old state.new (S.places step)) }
+    ensures sure { S.may_fail step ≡ false → IsOk result }
+    ensures same { OnErr result (IsSame state.old state.new) }
+{
+    let actor = lent(&mut state.actors[number]);
+    let mut others = lift(&mut state.cells, rest);
+    let made = run_two(
+        alloc,
+        h,
+        &mut state.cells,
+        first,
+        second,
+        &mut others,
+        actor,
+        step,
+    );
+    put(&mut state.cells, rest, others);
+    made
 }
 
 /// Makes a step whose first two cells are lent where they stand.

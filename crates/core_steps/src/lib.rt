@@ -1,6 +1,7 @@
 //! A step of the core as a value, over the cells that it holds; and the one driver that makes it in a state that one thread holds.
 #![tactic(auto)]
 
+mod begins;
 mod books;
 mod driver;
 mod jobs;
@@ -9,9 +10,12 @@ mod moving;
 mod notes;
 mod parts;
 mod places;
+mod reuses;
+mod rows;
 mod step;
 mod trees;
 
+pub use begins::BeginStep;
 pub use books::BookStep;
 pub use driver::make;
 pub use jobs::JobStep;
@@ -19,5 +23,7 @@ pub use lending::lent;
 pub use notes::NoteStep;
 pub use parts::PartStep;
 pub use places::{desk_place, image_place, ledger_place, map_place, registry_place, stock_place};
+pub use reuses::ReuseStep;
+pub use rows::RowStep;
 pub use step::{CellStep, Others, Places};
 pub use trees::TreeStep;

@@ -1,8 +1,10 @@
 -- What a run leaves.
 use Rattle.std.proofs.Common.{◌≡◌, ◌∙◌, List, length, sym, ap, subst, arith}
+use Rattle.core_laws.specs.CellUse.{AreAllUsed}
+use Rattle.core_laws.proofs.CellUses.{cell-use-law}
 use Rattle.row_ledger.specs.{Site.site_of, declared.event.Event.Event}
 use Rattle.script_form.specs.{Fits.AreSettings, declared.script.Script.Script}
-use Rattle.seeded_run.specs.Order.{is_order}
+use Rattle.seeded_run.specs.{Kept.{AreIdle, IsNoneGone}, Order.is_order}
 use Rattle.volap_cell.proofs.Promised.{place-law, rows-law}
 use Rattle.volap_cell.specs.{Opening.IsOpening, Setting.Setting, Steps.{Inv, history_in}, World.World}
 use Rattle.olap_top.specs.{Left.{IsHandedOut, LeavesRun}, OneRun.{EndsAs, GoesTo, IsRunUpTo, IsWhole, setting_of}, Outcomes.{RunsInOrder, schedule_of}, RowsKept.AreRowsKept, RunSoFar.{HasLeft, history_of, world_of}, Settles.IsSettling, declared.outcome.Outcome.Outcome, declared.run.Run.Run, declared.wanted.Wanted.Wanted}
@@ -17,6 +19,10 @@ rows-kept s w inv =
       places = record { standing = places.0; one = places.1 };
       shards = record { standing = rows.0; began = rows.1; acknowledged = rows.2 };
     }
+
+-- Where everybody is idle and no gate is gone, each cell has its one use.
+all-used : (s : Setting) (w : World) → Inv s w → AreIdle w × IsNoneGone w → AreAllUsed s w
+all-used s w inv (idle, gone) = cell-use-law s w inv (λ a. (idle a).purse) (λ a. (idle a).job) gone
 
 -- the history that was handed out
 pub history-left : (s : Script) (now : Run) (o : Outcome) → IsHandedOut s.hierarchy s.with now.state o → o.ledger.history ≡ history_of s now
@@ -53,6 +59,7 @@ leaves-run wanted s start now o settings opening schedule left out =
         run = subst (IsRunUpTo wanted s o.status) (sym out.same) run;
       };
       rows = subst (AreRowsKept (setting_of s)) (sym out.same) (rows-kept (setting_of s) (world_of s now) inv);
+      cells = λ ample. subst (AreAllUsed (setting_of s)) (sym out.same) (all-used (setting_of s) (world_of s now) inv (left.rests ample));
       settling = subst (IsSettling site) (sym same) settling;
       serial = λ order. subst (RunsInOrder s) (sym same) (record { part = left.part; serial = left.serial (ap is_order schedule ∙ order) });
     }

@@ -372,6 +372,7 @@ left-at s status n taken_before taken_now start run ends at = record {
   is_held = at.behind.is_held;
   ends = ends;
   goes = goes-to s n taken_before taken_now start run at (world_of s run) run.schedule (record { turns = []; are = refl });
+  rests = λ ample. (at.behind.between.idle, at.behind.between.none_gone);
   part = part-behind s (take n s.commands) (drop n s.commands) run at.behind (take-append-drop n s.commands);
   serial = λ order. serial-behind s (take n s.commands) (drop n s.commands) run at.behind (take-append-drop n s.commands) (at.order ∙ order);
 }
@@ -389,6 +390,7 @@ left-behind s start run left status kinds = record {
         (length (phases s.commands), (left.ends.0, subst (λ l. RunPhases (is_order start.schedule) s l (moment_of s start) (moment_at s run left.ends.0)) (sym (take_all (length (phases s.commands)) (phases s.commands) (omega arith))) left.ends.1))
     | inr (inr none) ↦ subst (λ (t : Status). EndsAs t (is_order start.schedule) s (moment_of s start) (world_of s run)) (sym none) tt
   ];
+  rests = λ ample. left.rests (λ none. absurd (cc));
   part = left.part;
   serial = left.serial;
 }
@@ -410,6 +412,7 @@ left-halt s n m taken_before taken_now start run now next at stopped =
       goes = goes-to s n taken_before taken_now start run at (world_of s now) stopped.schedule
           (subst (λ l. RunsPhase (is_order start.schedule) s l (moment_of s run) (record { state = world_of s now; schedule = stopped.schedule })) (sym here)
           (subst (λ b. RunsPhase b s (next_phase s n m) (moment_of s run) (record { state = world_of s now; schedule = stopped.schedule })) at.order stopped.turns));
+      rests = λ ample. absurd (ample refl);
       part = stopped-all s (take n s.commands) (next_phase s n m) (drop m s.commands) run now stopped whole;
       serial = λ order. subst (λ l. IsSerial s.with l (history_of s now)) whole
           (serial_law s.with s.hierarchy (cs ++ drop m s.commands) (history_of s now) (order-start-law s.with s.hierarchy cs (drop m s.commands) (history_of s now) stopped.stopped.few (stopped.stopped.ordered (at.order ∙ order))));

@@ -1,13 +1,13 @@
 -- What a run has made so far, and what a phase of it makes.
-use Rattle.std.specs.Prelude.{ℕ, ◌≡◌, ◌++◌, Bool, true, if◌then◌else◌, Option, Some, None, IfSome, is_some, List, [], take, drop, false}
+use Rattle.std.specs.Prelude.{ℕ, ◌≡◌, ◌≢◌, ◌++◌, Bool, true, if◌then◌else◌, Option, Some, None, IfSome, is_some, List, [], take, drop, false}
 use Rattle.answer_text.specs.{Printed.phase_behind, Told.HasTold, declared.text.Teller.Teller}
 use Rattle.row_ledger.specs.{declared.event.Event.Event, declared.settings.Use.Use}
 use Rattle.script_form.specs.{declared.script.Command.Command, declared.script.Script.Script}
 use Rattle.script_run.specs.Runs.{IsRunSoFar, IsSerial}
-use Rattle.seeded_run.specs.{Kept.{IsBetween, IsStopped}, Order.is_order, Phase.{IsCoreHeld, about, held}}
+use Rattle.seeded_run.specs.{Kept.{AreIdle, IsBetween, IsNoneGone, IsStopped}, Order.is_order, Phase.{IsCoreHeld, about, held}}
 use Rattle.seeded_turns.specs.{Drawn.Moment, declared.schedule.Schedule.Schedule}
 use Rattle.volap_cell.specs.{Steps.history_in, World.World}
-use Rattle.olap_top.specs.{OneRun.{EndsAs, GoesTo, RunsPhase, RunsWhole, phase_at, setting_of}, declared.outcome.Status.Status, declared.run.Run.Run, declared.wanted.Wanted.Wanted, declared.wanted.Wanted.TheVariants.Load}
+use Rattle.olap_top.specs.{OneRun.{EndsAs, GoesTo, RunsPhase, RunsWhole, phase_at, setting_of}, declared.outcome.Status.Status, declared.outcome.Status.TheVariants.NoMemory, declared.run.Run.Run, declared.wanted.Wanted.Wanted, declared.wanted.Wanted.TheVariants.Load}
 
 abbrev pub world_of : Script → Run → World
 world_of s run = held s.hierarchy s.with run.state
@@ -72,10 +72,15 @@ pub record HasStopped (s : Script) (done phase : List Command) (run now : Run) :
   pub grows : HasGrown (history_of s run) (history_of s now)
   pub stopped : IsStopped (is_order run.schedule) (setting_of s) (phase_at s phase (moment_of s run)) done (world_of s now)
 
+-- unless memory ran out, everybody is idle, and no gate is gone
+abbrev pub RestsAs : Status → World → Type 0
+RestsAs status w = status ≢ NoMemory → AreIdle w × IsNoneGone w
+
 -- what the phases of a script leave that ended so
 pub record HasLeft (s : Script) (status : Status) (run now : Run) : Type 0 where
   pub is_held : IsHeld s now
   pub goes : GoesTo (is_order run.schedule) s (moment_of s run) (world_of s now)
   pub ends : EndsAs status (is_order run.schedule) s (moment_of s run) (world_of s now)
+  pub rests : RestsAs status (world_of s now)
   pub part : IsRunSoFar s.with s.hierarchy s.commands (history_of s now)
   pub serial : is_order run.schedule ≡ true → IsSerial s.with s.commands (history_of s now)

@@ -1,6 +1,8 @@
 //! Phases in which jobs are given up, step by step, as where they find no memory.
 use crate::scripts::Line;
-use crate::shard_stories::{ASK_BOTH, BOTH, COUNT, ONE_WORKER, QUEUE, SHOW, TOWNS, TWO_WORKERS};
+use crate::shard_stories::{
+    ASK_BOTH, BOTH, COUNT, ONE_WORKER, QUEUE, REUSE, SHOW, TOWNS, TWO_WORKERS,
+};
 use crate::stories::{ASK, BEFORE, BEHIND, Story, tell};
 use row_ledger::Call;
 use std::test::Fail;
@@ -43,6 +45,7 @@ const STORIES: [Story; 3] = [
             (1, BOTH),
             (1, COUNT),
             (1, &[Kind::Answer]),
+            (3, REUSE),
             (3, SHOW),
         ],
         told: "postponed; 3 21 5 9; 0 split: 1 and 2; 3 21 5 9; 1 at 0: 2 + 0 in 2:0; 2 at 0: 1 + 0 in 2:1; ",
@@ -85,6 +88,7 @@ const STORIES: [Story; 3] = [
             (5, &[Kind::TakePart]),
             (5, COUNT),
             (1, &[Kind::Answer]),
+            (3, REUSE),
             (3, SHOW),
         ],
         told: "postponed; postponed; postponed; 17 18 1 2; 0 to 1; 18 22 1 4; 0 at 1: 18 + 0 in 2:0+1; 1 at 1: 8 + 0 in 2:2; ",
@@ -124,6 +128,8 @@ const STORIES: [Story; 3] = [
             (3, &[Kind::BuildBlock, Kind::BuildBlock, Kind::BuildBlock]),
             (3, &[Kind::BuildBlock, Kind::BuildBlock]),
             (3, &[Kind::FinishSplit, Kind::Note]),
+            (3, &[Kind::Reuse, Kind::Reuse, Kind::Reuse]),
+            (3, REUSE),
             (3, SHOW),
         ],
         told: "0 left: declined; balanced 0 of 1; 0 left: postponed; balanced 0 of 1; 66 70 1 4; 0 split: 2 and 3; balanced 1 of 1; 1 at 1: 1 + 0 in 2:2; 2 at 0: 64 + 0 in 2:0; 3 at 0: 1 + 0 in 2:1; ",

@@ -81,14 +81,20 @@ pub(crate) const ASK_BOTH: &[Kind] = &[
     Kind::Answer,
 ];
 
+/// What uses the cells of a gate that is gone again, whose tree has one block.
+pub(crate) const REUSE: &[Kind] = &[Kind::Reuse, Kind::Reuse];
+
+/// What uses those of one again whose tree has three blocks.
+const REUSE_THREE: &[Kind] = &[Kind::Reuse, Kind::Reuse, Kind::Reuse, Kind::Reuse];
+
 /// What a page of all shards does.
 pub(crate) const SHOW: &[Kind] = &[Kind::Note, Kind::Note, Kind::Note];
 
 /// What goes on beside splits and moves.
 const STORIES: [Story; 5] = [
     // A shard of 33 rows moves to the other worker. The move waits for the last insert in the tree; a later one comes to the
-    // queue, and goes with it. A query that has noted the old root reads the old tree. One that begins behind the move is
-    // handed on to the new worker.
+    // queue, and goes with it. A query that has noted the old root reads the old tree, whose cells are used again only behind
+    // that. One that begins behind the move is handed on to the new worker.
     Story {
         base: TWO_WORKERS,
         before: TOWNS,
@@ -115,7 +121,9 @@ const STORIES: [Story; 5] = [
             (3, &[Kind::Collect, Kind::Collect]),
             (3, &[Kind::BuildBlock, Kind::BuildBlock, Kind::BuildBlock]),
             (3, &[Kind::FinishMove]),
+            (3, &[]),
             (1, &[Kind::BlockVisit, Kind::FinishPart, Kind::Answer]),
+            (3, REUSE_THREE),
             (1, &[Kind::BeginQuery, Kind::TakePart, Kind::Forward]),
             (5, &[Kind::TakePart]),
             (5, READ),
@@ -155,6 +163,7 @@ const STORIES: [Story; 5] = [
             (3, &[Kind::FinishSplit]),
             (1, &[Kind::BlockVisit, Kind::BlockVisit]),
             (1, &[Kind::FinishPart, Kind::Answer]),
+            (3, REUSE_THREE),
             (1, BOTH),
             (1, READ),
             (1, &[Kind::Answer]),
@@ -194,6 +203,7 @@ const STORIES: [Story; 5] = [
             (1, BOTH),
             (1, COUNT),
             (1, &[Kind::Answer]),
+            (3, REUSE),
             (3, &[Kind::Note, Kind::Freeze, Kind::Drained]),
             (3, &[Kind::Collect, Kind::Collect, Kind::BuildBlock]),
             (3, &[Kind::FinishMove]),
@@ -213,6 +223,7 @@ const STORIES: [Story; 5] = [
             (5, &[Kind::TakePart]),
             (5, COUNT),
             (1, &[Kind::Answer]),
+            (3, REUSE),
             (3, SHOW),
         ],
         told: "0 split: 2 and 3; by 0 3; 17 18 1 2; 3 to 1; by 0 3; 18 22 1 4; 10 14 1 4; 1 at 1: 8 + 0 in 2:2; 2 at 0: 8 + 0 in 2:0; 3 at 1: 10 + 0 in 2:1; ",
@@ -254,6 +265,7 @@ const STORIES: [Story; 5] = [
             (0, ASK),
             (1, ASK_BOTH),
             (0, ASK_BOTH),
+            (3, REUSE),
             (3, SHOW),
         ],
         told: "0 split: 1 and 2; 1 2 2 2; 2 6 2 4; 2 6 2 4; 10 14 1 4; 10 14 1 4; 1 at 0: 8 + 0 in 2:0; 2 at 0: 1 + 1 in 2:1+2; ",
@@ -282,6 +294,7 @@ const STORIES: [Story; 5] = [
             (0, BEFORE),
             (0, BEHIND),
             (0, &[Kind::Ack]),
+            (3, REUSE),
             (3, &[Kind::Note, Kind::Freeze, Kind::Note]),
             (1, &[Kind::BeginQuery, Kind::TakePart]),
             (1, COUNT),

@@ -119,11 +119,21 @@ fn push_inserts<R: AllocGlobal>(rt: &R, text: &mut Vec<u8>, words: &str) -> Resu
     Ok(())
 }
 
-/// Adds lines that begin with numbers, from the first to the last, as in `1 33 insert ok`.
+/// Adds lines that begin with numbers, from the first to the last, as in `1 33 insert ok`; between bars stand lines that
+/// come in turn, as in `1 4 move ok|balance 1 1`.
 fn push_numbered<R: AllocGlobal>(rt: &R, text: &mut Vec<u8>, words: &str) -> Result<(), Fault> {
     let (first, rest) = number_before(words)?;
-    let (last, line) = number_before(rest)?;
+    let (last, rest) = number_before(rest)?;
+    let lines: Vec<&str> = rest.split('|').collect(rt.alloc())?;
     for number in first..=last {
+        let len = lines.len() as u64;
+        if len == 0 {
+            return Err(Fault::Number);
+        }
+        let line = lines
+            .get((number.wrapping_sub(first) % len) as usize)
+            .copied()
+            .unwrap_or("");
         let begin = format!(in rt.alloc(); "{number} ")?;
         text.extend_from_slice(begin.as_str().as_bytes())?;
         push_plain(text, line)?;

@@ -181,7 +181,7 @@ module _ (in_order : Bool) (s : Setting) (p : PhaseRun) (w now : World) (g g_now
   -- One after the other.
   module _ (order : in_order ≡ true) where
     f : IsFirst (over_in p (history_in w)) (session_of p.with) 0 p.commands n
-    f = first-some p (history_in w) n (can-first in_order s p w now g g_now next n i i_now turn r in_order order turn.can)
+    f = first-some p (history_in w) n (can-first in_order s p w now g g_now next n i i_now turn r t.of_command order)
 
     not-past : next n ≤ f.at
     not-past = elim (low-or-high f.at (next n)) [

@@ -1,5 +1,5 @@
 -- What is due for an actor whose command may begin, or that can step at all.
-use Rattle.std.proofs.{Common.{◌≡◌, ◌≢◌, ◌∙◌, ◌<◌, ◌&&◌, inl, inr, ℕ, Bool, true, false, not, ◌==◌, List, [], ◌∷◌, Option, Some, None, is_none, length, get_or, refl, sym, ap, subst}, lemmas.Bool.eq-eqb}
+use Rattle.std.proofs.{Common.{◌≡◌, ◌≢◌, ◌∙◌, ◌<◌, ◌&&◌, inl, inr, ℕ, Bool, true, false, not, ◌==◌, List, [], ◌∷◌, Option, Some, None, is_none, length, get_or, option_map, refl, sym, ap, subst}, lemmas.Bool.eq-eqb}
 use Rattle.std.specs.Prelude.{if◌then◌else◌, slice_get}
 use Rattle.dim_hierarchy.specs.Dimension.{Dimension}
 use Rattle.query_router.specs.Desk.{DeskValue}
@@ -8,10 +8,11 @@ use Rattle.script_form.specs.declared.script.Command.TheVariants as script
 use Rattle.volap_cell.specs.{Errands.way_of, Setting.Setting, Steps.history_in, Values.{ActorValue, ErrandValue, actor_of}, World.World, declared.actor.Actor.Actor, declared.command.Command.Command as OpenCommand, declared.kind.Kind.Kind, declared.role.Role.Role}
 use Rattle.volap_cell.specs.declared.kind.Kind.TheVariants as kind
 use Rattle.volap_cell.specs.declared.role.Role.TheVariants as role
-use Rattle.volap_cell.proofs.Cells.States.{stands}
-use Rattle.core_due.specs.{Due.desk_of, Wants.is_carried_at}
-use Rattle.seeded_run.specs.{Commands.may_begin, Due.{command_kind, due, free_kind, is_alone, next_kind}, Machine.{BeginsNow, HasLeftOver, HasTurned, IsDueNow, IsDueStep, IsPhaseHeld, IsPhaseKept, TakesTurn, about_in, next_at, phase_of, world_of}, Rests.{first_open, rest_of}, Steps.{begins_by, begins_of_one, is_for_part}, Takes.{AsksHere, carries_at, free_by}, Told.is_of_part, declared.turn.DueStep.TheVariants.Begins, declared.machine.Running.Running}
-use Rattle.seeded_run.proofs.{Cursors.Held.{none-past, rest-none, rest-some}, Due.DueSteps.{begins-apart, kind-of}, Holding.LeftAlone.{and-both, apart, at-command, both-parts, is-idle, off-part, or-true, same-or-not, true-or}, Phases.Movers.all-from, Phases.PhaseRuns.script}
+use Rattle.volap_cell.proofs.Cells.States.{same-actor, stands}
+use Rattle.core_due.proofs.Released.{reuse-told}
+use Rattle.core_due.specs.{Due.desk_of, Look.world_by, Reuses.reuse_due, Wants.is_carried_at}
+use Rattle.seeded_run.specs.{Commands.may_begin, Due.{due, free_kind, is_alone, next_kind}, DueSteps.due_step, Machine.{BeginsNow, HasLeftOver, HasTurned, IsDueNow, IsDueStep, IsPhaseHeld, IsPhaseKept, TakesTurn, about_in, next_at, phase_of, step_in, world_of}, Rests.{first_open, rest_of}, Steps.{begins_by, begins_of_one, is_for_part}, Takes.{AsksHere, carries_at, free_by}, Told.is_of_part, declared.turn.DueStep.TheVariants.{Begins, Reuses}, declared.machine.Running.Running}
+use Rattle.seeded_run.proofs.{Cursors.Held.{none-past, rest-none, rest-some}, Due.DueReuses.over-step, Due.DueSteps.{begins-apart, kind-of}, Holding.LeftAlone.{and-both, apart, at-command, both-parts, is-idle, off-part, or-true, same-or-not, true-or}, Phases.Movers.all-from, Phases.PhaseRuns.script, Seen.world-seen}
 
 may-of : (actors : List (Option Actor)) (n : ℕ) (k : Kind) → begins_by actors n k ≡ true → may_begin k ≡ true
 may-of actors n k = by (get_or actors n None)
@@ -49,8 +50,7 @@ module _ (m : Running) (kept : IsPhaseKept m) (n : ℕ) where
       let both = both-parts (is_none (actor_of a.0).command) (may_begin k) (sym (ap (λ o. begins_of_one o k) a.1) ∙ begins) in
       let free : (w.actors n).command ≡ None = sym (ap (λ (x : ActorValue). x.command) a.2) ∙ none-is (actor_of a.0).command both.0 in
       let at = at-command s w rest n k now_due.due_is (off-part (w.actors n).errand k (begins-apart k both.1)) in
-      let kind_is : free_kind s w (is_alone s w rest n) (rest n) (w.actors n).role ≡ Some k = sym (ap (command_kind s w (is_alone s w rest n) (rest n) (w.actors n)) free) ∙ at.due in
-      apart (may_begin k) both.1 (free-none s w (is_alone s w rest n) (rest n) (w.actors n).role k (rest-none m kept n (none-past m.phase.now (next_at m n) none)) kind_is)
+      apart (may_begin k) both.1 (free-none s w (is_alone s w rest n) (rest n) (w.actors n).role k (rest-none m kept n (none-past m.phase.now (next_at m n) none)) (at.free free))
     where
       none-is : (o : Option OpenCommand) → is_none o ≡ true → o ≡ None
       none-is None is = refl
@@ -123,6 +123,24 @@ alone-carries m held n order first block = all-from (length m.state.actors.items
         ap (λ o. not (carries_at o block)) x.1
         ∙ ap (λ (y : ActorValue). not (is_carried_at block (way_of y.errand))) x.2
         ∙ ap (λ e. not (is_carried_at block (way_of e))) idle.errand
+
+-- Where they do and all are over, everybody is idle, and what an actor does is seen in the cells.
+pub over-seen : (m : Running) → IsPhaseHeld m → (n : ℕ) → m.in_order ≡ true → m.first ≡ None → (a : Actor) → get_or m.state.actors.items n None ≡ Some a
+    → step_in m n ≡ option_map Reuses (reuse_due (world_by m.state.cells.items) (actor_of a))
+over-seen m held n order over a at =
+    let s = about_in m in
+    let w = world_of m in
+    let core = held.kept.core in
+    let opened : first_open (phase_of m) (history_in w) ≡ None = held.first order ∙ over in
+    let idle = is-idle (w.actors n) (held.kept.is_running.idle order n (λ some. none-some (sym opened ∙ some))) in
+    ap (λ b. due_step b s (phase_of m) w n) order
+    ∙ over-step s w n idle (phase_of m) opened
+    ∙ ap (option_map Reuses)
+    (ap (reuse_due w) (same-actor m.state.cells.items m.state.actors.items w n a core.is at) ∙ reuse-told w (actor_of a)
+    ∙ ap (λ (v : World). reuse_due v (actor_of a)) (world-seen m.h.now m.with m.state.cells.items m.state.actors.items s w core))
+  where
+    none-some : ◌≡◌ {A = Option ℕ} None (Some n) → ⊥
+    none-some e = cc
 
 -- What a turn was it is still when it is known whose the first command is.
 pub turned-then : (m mid now : Running) (n : ℕ) → HasTurned m n mid → now ≡ record mid { begun = now.begun; first = now.first; hands = now.hands } → TakesTurn m n now

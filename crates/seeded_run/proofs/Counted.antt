@@ -13,9 +13,9 @@ use Rattle.seeded_run.specs.Measure.{CountedLaw}
 abbrev Same : ActorValue → ActorValue → Type 0
 Same a b = b.counted ≡ a.counted
 
-finished : (of : ℕ) (work : Work) (job : JobValue) (e : Event) (l : Change) (a b : ActorValue) → Finishes of work job e l a b → Same a b
-finished of (work_is.Balance balance) job e l a b d = ap (λ (z : ActorValue). z.counted) d.1
-finished of _ job e l a b d = ap (λ (z : ActorValue). z.counted) d.1
+finished : (gate of : ℕ) (work : Work) (job : JobValue) (e : Event) (l : Change) (a b : ActorValue) → Finishes gate of work job e l a b → Same a b
+finished gate of (work_is.Balance balance) job e l a b d = ap (λ (z : ActorValue). z.counted) d.1
+finished gate of _ job e l a b d = ap (λ (z : ActorValue). z.counted) d.1
 
 gave-up : (of : ℕ) (work : Work) (job : JobValue) (l : Change) (a b : ActorValue) → GivesUp of work job l a b → Same a b
 gave-up of (work_is.Balance balance) job l a b d = ap (λ (z : ActorValue). z.counted) d.1
@@ -88,10 +88,11 @@ by-kind h kind.Collect (c ∷ []) a b d = elim d [
   | inr (inr all) ↦ inr (ap (λ (z : ActorValue). z.counted) all.actor_is)
 ]
 by-kind h kind.BuildBlock (c ∷ []) a b d = inr (ap (λ (z : ActorValue). z.counted) d.actor_is)
-by-kind h kind.FinishSplit (m ∷ x ∷ l ∷ r ∷ reg ∷ c ∷ led ∷ []) a b d = inr (finished d.of d.work d.job _ led a b d.finishes)
-by-kind h kind.FinishMove (m ∷ x ∷ g ∷ reg ∷ c ∷ led ∷ []) a b d = inr (finished d.of d.work d.job _ led a b d.finishes)
-by-kind h kind.FinishMove (m ∷ n ∷ x ∷ g ∷ reg ∷ c ∷ led ∷ []) a b d = inr (finished d.of d.work d.job _ led a b d.finishes)
+by-kind h kind.FinishSplit (m ∷ x ∷ l ∷ r ∷ reg ∷ c ∷ led ∷ []) a b d = inr (finished x.number d.of d.work d.job _ led a b d.finishes)
+by-kind h kind.FinishMove (m ∷ x ∷ g ∷ reg ∷ c ∷ led ∷ []) a b d = inr (finished x.number d.of d.work d.job _ led a b d.finishes)
+by-kind h kind.FinishMove (m ∷ n ∷ x ∷ g ∷ reg ∷ c ∷ led ∷ []) a b d = inr (finished x.number d.of d.work d.job _ led a b d.finishes)
 by-kind h kind.Postpone (c ∷ led ∷ []) a b d = inr (gave-up d.of d.work d.job led a b d.gives_up)
+by-kind h kind.Reuse (g ∷ y ∷ c ∷ []) a b d = inr (ap (λ (z : ActorValue). z.counted) d.actor_is)
 by-kind h kind.Reuse (g ∷ c ∷ []) a b d = inr (ap (λ (z : ActorValue). z.counted) d.actor_is)
 by-kind h _ _ a b d = absurd d
 

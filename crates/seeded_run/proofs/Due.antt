@@ -3,3 +3,4 @@ pub mod Dues
 pub mod DueCommands
 pub mod DueSteps
 pub mod DueBegins
+pub mod DueReuses

@@ -4,7 +4,7 @@ use Rattle.std.specs.Prelude.{option_and_then, option_map}
 use Rattle.cell_stock.specs.declared.purse.Spare.{Spare}
 use Rattle.core_due.specs.{Spares.{last_spare, spare_before}, Splits.split_of, WorksReady.{IsInsteadReady, IsStopFor, MayMakeBook, MayMakeJob, MayMakeNote, MaySplit}, declared.works.WorkDue.WorkDue}
 use Rattle.core_due.specs.declared.works.WorkDue.TheVariants.{Books, Jobs, Shows, Splits}
-use Rattle.core_steps.specs.{Books.{EndsIn, book_kind, book_may_fail, book_places, book_tells}, Jobs.{job_kind, job_may_fail}, Steps.{IsFurther, IsSame, IsSound, IsTold}, declared.books.BookStep.BookStep, declared.jobs.JobStep.JobStep}
+use Rattle.core_steps.specs.{Books.{EndsIn, book_kind, book_may_fail, book_places, book_tells}, Jobs.{job_kind, job_may_fail}, Steps.{IsFurther, IsSame, IsTold}, declared.books.BookStep.BookStep, declared.jobs.JobStep.JobStep}
 use Rattle.core_steps.specs.declared.books.BookStep.TheVariants as book
 use Rattle.core_steps.specs.declared.jobs.JobStep.TheVariants as job
 use Rattle.core_steps.specs.declared.notes.NoteStep.TheVariants as note
@@ -13,9 +13,9 @@ use Rattle.list_words.proofs.Elements.{Some-same}
 use Rattle.row_ledger.specs.{declared.class.Subject.Subject, declared.event.Event.Event}
 use Rattle.row_ledger.specs.declared.settings.How.TheVariants.{NoMemory}
 use Rattle.seeded_run.specs.{Arms.{GoesOnWithCommand, TellsIfNote}, Drives.{GivesWay, HasActor, MayGiveWay, Stops, StopsAtDesk, StopsJob, instead_of, is_balance, is_balance_work, is_past_freeze, kind_of_stop}, Instead.in_place_of}
-use Rattle.seeded_run.proofs.{Instead.falls-to, States.{actor-within, further-then, of-actor, some-actor, still-same}}
+use Rattle.seeded_run.proofs.{Instead.falls-to, States.{further-then, of-actor, some-actor, still-same}}
 use Rattle.volap_cell.proofs.Cells.States.{of-it, stands}
-use Rattle.volap_cell.specs.{ImageKinds.IsFree, Setting.ledger_cell, State.{Has, IsWorldOf}, Steps.history_in, Values.{ActorValue, actor_of}, World.World, declared.actor.Actor.Actor, declared.command.Command.Command, declared.command.Work.Work, declared.kind.Kind.Kind, declared.state.State.State}
+use Rattle.volap_cell.specs.{Setting.ledger_cell, State.{Has, IsWorldOf}, Steps.history_in, Values.{ActorValue, actor_of}, World.World, declared.actor.Actor.Actor, declared.command.Work.Work, declared.kind.Kind.Kind, declared.state.State.State}
 use Rattle.volap_cell.specs.declared.command.Work.TheVariants as work_is
 use Rattle.volap_cell.specs.declared.kind.Kind.TheVariants as kind
 
@@ -41,8 +41,6 @@ note-made h n was now further tells = (kind.Note, further, inr (λ w v i j. (let
 
 -- some steps at desks are notes
 pub book-made : (step : BookStep) (h : List Dimension) (n : ℕ) (was now : State) → IsFurther h (book_kind step) n was now → IsTold was now n (book_places step) (book_tells step) → GoesOnWithCommand h (book_kind step) n was now
-book-made (book.BeginInsert image at measures) h n was now further told = other-made kind.BeginInsert refl h n was now further
-book-made (book.BeginQuery desk image filter) h n was now further told = other-made kind.BeginQuery refl h n was now further
 book-made (book.Route desk image) h n was now further told = other-made kind.Route refl h n was now further
 book-made (book.Ack desk image) h n was now further told = other-made kind.Ack refl h n was now further
 book-made (book.Answer desk) h n was now further told = other-made kind.Answer refl h n was now further
@@ -119,6 +117,16 @@ module _ (h : List Dimension) (state : State) (n : ℕ) where
   pub page-stops : (subject : Subject) → HasActor state n (GivesWay h state n (Shows subject)) → MayMakeNote h state n (note.Ended NoMemory)
   page-stops subject has = given-way (Shows subject) (MayMakeNote h state n (note.Ended NoMemory)) (λ work k. k) has
 
+  -- a step at a desk that may fail
+  pub desk-stops : (step : BookStep) → book_may_fail step ≡ true → HasActor state n (GivesWay h state n (Books step)) → StopsAtDesk h state n (instead_of step)
+  desk-stops (book.Route desk image) may has = given-way (Books (book.Route desk image)) (MayMakeBook h state n (book.FailUnrouted image)) (λ work k. k) has
+  desk-stops (book.Sync image) may has = given-way (Books (book.Sync image)) (MayMakeNote h state n (note.Ended NoMemory)) (λ work k. k) has
+  desk-stops (book.Ack desk image) may has = (let never : false ≡ true = may in absurd (cc))
+  desk-stops (book.Answer desk) may has = (let never : false ≡ true = may in absurd (cc))
+  desk-stops (book.FailUnrouted image) may has = (let never : false ≡ true = may in absurd (cc))
+  desk-stops (book.FailRouted desk image) may has = (let never : false ≡ true = may in absurd (cc))
+  desk-stops (book.FailQuery desk) may has = (let never : false ≡ true = may in absurd (cc))
+
 -- of which kind that is
 
 pub job-stands : (step : JobStep) → job_may_fail step ≡ true → in_place_of (job_kind step) ≡ Some (kind_of_stop (is_past_freeze step))
@@ -139,8 +147,6 @@ stop-is-sure true = refl
 stop-is-sure false = refl
 
 pub book-stands : (step : BookStep) → book_may_fail step ≡ true → in_place_of (book_kind step) ≡ Some kind.Note
-book-stands (book.BeginInsert image at measures) may = refl
-book-stands (book.BeginQuery desk image filter) may = refl
 book-stands (book.Route desk image) may = refl
 book-stands (book.Sync image) may = refl
 book-stands (book.Ack desk image) may = (let never : false ≡ true = may in absurd (cc))
@@ -148,33 +154,6 @@ book-stands (book.Answer desk) may = (let never : false ≡ true = may in absurd
 book-stands (book.FailUnrouted image) may = (let never : false ≡ true = may in absurd (cc))
 book-stands (book.FailRouted desk image) may = (let never : false ≡ true = may in absurd (cc))
 book-stands (book.FailQuery desk) may = (let never : false ≡ true = may in absurd (cc))
-
--- What is due at a desk begins nothing, as a command is open.
-
-module _ (h : List Dimension) (was now : State) (n : ℕ) (sound : IsSound h was) (same : IsSame was now) where
-  abbrev w : World
-  w = sound.world
-
-  busy : (due : WorkDue) → HasActor now n (GivesWay h now n due) → ¬ IsFree (w.actors n)
-  busy due has free =
-      let k = some-actor now n (GivesWay h now n due) has in
-      let at = of-it (get_or now.actors.items n None) (λ x. actor_of x ≡ w.actors n) k.0 ((same.same w sound.is).actor n (actor-within now n (GivesWay h now n due) has)) k.1 in
-      let doing_so : (actor_of k.0).command ≡ Some (record { of = (k.2).0; work = (k.2).1 }) = (k.2).2 in
-      let none : (actor_of k.0).command ≡ None = ap (λ (a : ActorValue). a.command) at ∙ free.command in
-      let never : ◌≡◌ {A = Option Command} None (Some (record { of = (k.2).0; work = (k.2).1 })) = sym none ∙ doing_so in
-      absurd (cc)
-
-  -- a step at a desk that may fail
-  pub desk-stops : (step : BookStep) → book_may_fail step ≡ true → MayMakeBook h was n step → HasActor now n (GivesWay h now n (Books step)) → StopsAtDesk h now n (instead_of step)
-  desk-stops (book.BeginInsert image at measures) fails may has = absurd (busy (Books (book.BeginInsert image at measures)) has (may.ready w sound.is).asked.free)
-  desk-stops (book.BeginQuery desk image filter) fails may has = absurd (busy (Books (book.BeginQuery desk image filter)) has (may.ready w sound.is).asked.free)
-  desk-stops (book.Route desk image) fails may has = given-way h now n (Books (book.Route desk image)) (MayMakeBook h now n (book.FailUnrouted image)) (λ work k. k) has
-  desk-stops (book.Sync image) fails may has = given-way h now n (Books (book.Sync image)) (MayMakeNote h now n (note.Ended NoMemory)) (λ work k. k) has
-  desk-stops (book.Ack desk image) fails may has = (let never : false ≡ true = fails in absurd (cc))
-  desk-stops (book.Answer desk) fails may has = (let never : false ≡ true = fails in absurd (cc))
-  desk-stops (book.FailUnrouted image) fails may has = (let never : false ≡ true = fails in absurd (cc))
-  desk-stops (book.FailRouted desk image) fails may has = (let never : false ≡ true = fails in absurd (cc))
-  desk-stops (book.FailQuery desk) fails may has = (let never : false ≡ true = fails in absurd (cc))
 
 -- The end of a split.
 

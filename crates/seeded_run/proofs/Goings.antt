@@ -1,16 +1,17 @@
 -- What is due for an actor whose turn it is can be made in the state that it is in.
 use Rattle.std.proofs.{Common.{◌≡◌, ◌≢◌, ◌∙◌, ◌<◌, inl, inr, ℕ, true, List, Option, Some, None, length, refl, sym, ap, subst}, lemmas.Bool.cases_lt}
-use Rattle.std.specs.Option.{option_map_or}
-use Rattle.core_due.specs.{Parts.due_kind, Ready.IsStateOf, Wants.{is_block_free, is_drained, wanted}, WorkLaws.IsAtWork, Works.{work_due, work_due_kind}, WorksReady.{AreBytes, IsWorkReady}, declared.parts.PartDue.PartDue, declared.works.WorkDue.WorkDue}
+use Rattle.std.specs.{Option.option_map_or, Prelude.⊤}
+use Rattle.core_due.specs.{Parts.due_kind, Ready.IsStateOf, ReuseLaws.MayMakeReuse, Wants.{is_block_free, is_drained, wanted}, WorkLaws.IsAtWork, Works.{work_due, work_due_kind}, WorksReady.{AreBytes, IsWorkReady}, declared.parts.PartDue.PartDue, declared.works.WorkDue.WorkDue}
 use Rattle.core_due.specs.declared.works.WorkDue.TheVariants as work_is_due
-use Rattle.core_steps.specs.Steps.{IsSound}
+use Rattle.core_due.proofs.{InStates.may-make, ReusesPrepared.reuse-prepared}
+use Rattle.core_steps.specs.{Reuses.{reuse_asks, reuse_places}, Steps.IsSound, declared.reuses.ReuseStep.ReuseStep}
 use Rattle.core_steps.specs.declared.books.BookStep.TheVariants as book
 use Rattle.core_steps.specs.declared.jobs.JobStep.TheVariants as job
 use Rattle.script_form.specs.declared.script.Command.{Command}
-use Rattle.volap_cell.specs.{Errands.taken_of, Ghost.Ghost, Invariant.InvWith, Setting.{Setting, actor_count}, Sights.IsIdle, Steps.history_in, Values.ErrandValue, View.view, World.World, declared.command.Command.Command as OpenCommand, declared.command.Work.Work, declared.kind.Kind.Kind, declared.kind.Kind.TheVariants.TakePart}
+use Rattle.volap_cell.specs.{Errands.taken_of, Ghost.Ghost, Invariant.InvWith, Setting.{Setting, actor_count}, Sights.IsIdle, Steps.history_in, Values.ErrandValue, View.view, World.World, declared.command.Command.Command as OpenCommand, declared.command.Work.Work, declared.kind.Kind.Kind, declared.kind.Kind.TheVariants.{Reuse, TakePart}}
 use Rattle.seeded_run.specs.{Drives.{MayEndInstead, MayGiveWay, MayGoOn, MayShow, MayTake}, Due.is_alone, Instead.StandsFor, Machine.{IsDueNow, IsDueStep, IsPhaseKept, about_in, phase_of, world_of}, Rests.{PhaseRun, rest_of}, Steps.is_for_part, Told.is_of_part, declared.machine.Running.Running}
-use Rattle.seeded_run.specs.declared.turn.DueStep.TheVariants.{AtPart, AtWork, Takes}
-use Rattle.seeded_run.proofs.{Due.DueSteps.{at-part, at-take, at-work, kind-of}, Holding.LeftAlone.{alone-parts, both-parts}, Instead.made-as-due, PagesMayShow.may-show, PartsMayGoOn.{may-give-back, may-go-on, may-take, sound}, Phases.Turns.meets-it, States.state-of, WorksMayGoOn.may-go-on-with}
+use Rattle.seeded_run.specs.declared.turn.DueStep.TheVariants.{AtPart, AtWork, Reuses, Takes}
+use Rattle.seeded_run.proofs.{Due.DueSteps.{at-part, at-reuse, at-take, at-work, kind-of}, Holding.LeftAlone.{alone-parts, both-parts}, Instead.made-as-due, PagesMayShow.may-show, PartsMayGoOn.{may-give-back, may-go-on, may-take, sound}, Phases.Turns.meets-it, States.state-of, WorksMayGoOn.may-go-on-with}
 
 -- Everyone else.
 
@@ -32,8 +33,6 @@ alone-idle s w g i rest n alone a differs = elim (cases_lt a (actor_count s)) [
 -- a step of a command goes on with no part, but where one is taken: and then in its place nothing else is made
 of-part-so : (due : WorkDue) (k : Kind) → StandsFor (work_due_kind due) k → is_for_part None (work_due_kind due) ≡ true → is_of_part k ≡ true
 of-part-so (work_is_due.Takes desk) k stands is = ap is_of_part (made-as-due TakePart k refl stands)
-of-part-so (work_is_due.Books (book.BeginInsert image at measures)) k stands is = cc
-of-part-so (work_is_due.Books (book.BeginQuery desk image filter)) k stands is = cc
 of-part-so (work_is_due.Books (book.Route desk image)) k stands is = cc
 of-part-so (work_is_due.Books (book.Ack desk image)) k stands is = cc
 of-part-so (work_is_due.Books (book.Answer desk)) k stands is = cc
@@ -164,3 +163,17 @@ module _ (m : Running) (kept : IsPhaseKept m) (n : ℕ) where
       let k = kind-of m.in_order s p w n (Takes worker) kept.core.inv is.is in
       let x = at-take s w rest n worker k.4 in
       may-take m.h.now m.with m.state s w n state (subst (λ c. n < c) kept.core.count within) worker x.0 x.1 x.4
+
+  -- Cells that are used again.
+
+  pub reuse-now : (step : ReuseStep) → IsDueStep m n (Reuses step) → IsDueNow m n Reuse
+  reuse-now step is =
+      let k = kind-of m.in_order s p w n (Reuses step) kept.core.inv is.is in
+      subst (IsDueNow m n) (k.3).1 (record { due_is = k.1; can = k.2 })
+
+  -- the state has the step's cells
+  pub reuse-goes : (step : ReuseStep) → IsDueStep m n (Reuses step) → MayMakeReuse m.h.now m.state n step
+  reuse-goes step is =
+      let k = kind-of m.in_order s p w n (Reuses step) kept.core.inv is.is in
+      let x = at-reuse s w rest n step k.4 in
+      may-make m.h.now m.with m.state s w state n (reuse_places step) (reuse_asks step) ⊤ (reuse-prepared s w kept.core.inv n step (record { no_command = x.1; due = x.3 })) tt

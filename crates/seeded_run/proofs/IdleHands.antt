@@ -1,17 +1,15 @@
 -- A hand that has nothing to do takes a part that waits for its worker, if one does.
-use Rattle.std.proofs.Common.{◌≡◌, ◌≢◌, ◌∙◌, ◌<◌, ◌&&◌, ℕ, inl, inr, Bool, true, false, cond, not, List, [], Option, Some, None, IfSome, is_none, get_or, length, option_map, refl, sym, ap, subst}
-use Rattle.std.specs.{Option.option_map_or, Prelude.option_and_then}
+use Rattle.std.proofs.Common.{◌≡◌, ◌≢◌, ◌∙◌, ◌<◌, ℕ, inl, inr, Bool, true, false, cond, List, [], Option, Some, None, IfSome, get_or, length, option_map, refl, sym, ap, subst}
+use Rattle.std.specs.Option.{option_map_or}
 use Rattle.dim_hierarchy.specs.Dimension.{Dimension}
 use Rattle.row_ledger.specs.declared.settings.Use.{Use}
 use Rattle.script_form.specs.declared.script.Command.{Command}
-use Rattle.volap_cell.specs.{Errands.way_of, Setting.Setting, State.IsWorldOf, Steps.history_in, Values.{ActorValue, ErrandValue, JobValue, actor_of}, World.World, declared.actor.Actor.Actor, declared.cell.Cell.Cell, declared.command.Command.Command as OpenCommand, declared.kind.Kind.Kind, declared.kind.Kind.TheVariants.{Refill, TakePart}, declared.role.Role.Role}
+use Rattle.volap_cell.specs.{Errands.way_of, Setting.Setting, Sights.IsIdle, State.IsWorldOf, Steps.history_in, Values.{ActorValue, actor_of}, World.World, declared.actor.Actor.Actor, declared.cell.Cell.Cell, declared.kind.Kind.Kind, declared.kind.Kind.TheVariants.TakePart, declared.role.Role.Role}
 use Rattle.volap_cell.proofs.Cells.States.{same-actor, stands}
-use Rattle.core_due.specs.{Due.{hand_kind, is_empty}, Look.{setting_by, world_by}, Wants.{is_block_free, is_carried_at, is_drained, meets, wanted_of}}
-use Rattle.core_due.specs.declared.parts.PartDue.TheVariants.{Tree}
-use Rattle.core_steps.specs.declared.trees.TreeStep.TheVariants.{GiveBack}
-use Rattle.seeded_run.specs.{Core.IsCore, Due.{actor_kind, command_kind, free_kind, is_alone}, DueSteps.{KnowsBytes, actor_step, command_step, due_step, free_step, step_due, step_if_free, step_where}, Hands.{AreFreeHands, IsFreeHand, IsFreeHandAt}, Machine.{IsDueStep, IsPhaseHeld, IsPhaseKept, KnowsHands, KnowsOtherHands, about_in, phase_of, step_in, world_of}, Rests.{PhaseRun, rest_of}, Survey.{IsSurvey, is_awaited}, Takes.carries_at, declared.hands.FreeHands.FreeHands, declared.machine.Running.Running, declared.survey.Survey.Survey, declared.turn.DueStep.DueStep}
-use Rattle.seeded_run.specs.declared.turn.DueStep.TheVariants.{AtPart, Takes}
-use Rattle.seeded_run.proofs.{Due.DueSteps.in-turn, Holding.LeftAlone.{is-idle, same-or-not}, Seen.core-seen}
+use Rattle.core_due.specs.{Due.hand_kind, Look.{setting_by, world_by}, Reuses.reuse_for, Wants.{is_carried_at, meets}}
+use Rattle.seeded_run.specs.{Core.IsCore, Due.{actor_kind, free_kind, is_alone, kind_or}, DueSteps.{KnowsBytes, actor_step, due_step, free_step, step_due, step_if_free, step_or, step_where}, Hands.{AreFreeHands, IsFreeHand, IsFreeHandAt}, Machine.{IsDueStep, IsPhaseHeld, IsPhaseKept, KnowsHands, KnowsOtherHands, about_in, phase_of, step_in, world_of}, Rests.{PhaseRun, rest_of}, Survey.{IsSurvey, is_awaited}, Takes.carries_at, declared.hands.FreeHands.FreeHands, declared.machine.Running.Running, declared.survey.Survey.Survey, declared.turn.DueStep.DueStep}
+use Rattle.seeded_run.specs.declared.turn.DueStep.TheVariants.{Takes}
+use Rattle.seeded_run.proofs.{Due.DueReuses.{idle-kind, idle-meets, idle-step}, Due.DueSteps.in-turn, Holding.LeftAlone.{is-idle, same-or-not}, Seen.core-seen}
 
 -- In the vectors and in the state that they are.
 
@@ -65,42 +63,18 @@ pub hand-seen : (h : List Dimension) (with : Use) (cells : List (Option Cell)) (
 hand-seen h with cells actors s w core worker = core-seen h with cells actors s w core (λ t v. hand_kind t v worker)
 
 module _ (s : Setting) (w : World) (n worker : ℕ) (free : IsFreeHand (w.actors n) worker) where
-  none-left : (is_none (w.actors n).job && not (is_empty (w.actors n).purse)) ≡ false
-  none-left = by (w.actors n).purse (is-idle (w.actors n) free.idle).purse
-    where
-      and-none : (b : Bool) → (b && false) ≡ false
-      and-none true = refl
-      and-none false = refl
-
-      by : {A : Type 0} (xs : List A) → xs ≡ [] → (is_none (w.actors n).job && not (is_empty xs)) ≡ false
-      by xs is = ap (λ ys. is_none (w.actors n).job && not (is_empty ys)) is ∙ and-none (is_none (w.actors n).job)
+  idle : IsIdle (w.actors n)
+  idle = is-idle (w.actors n) free.idle
 
   module _ (alone : Bool) (rest : List Command) where
     kind-is : actor_kind s w alone rest (w.actors n) (w.actors n).errand ≡ hand_kind s w worker
-    kind-is =
-        let idle = is-idle (w.actors n) free.idle in
-        ap (λ (e : Option ErrandValue). actor_kind s w alone rest (w.actors n) e) idle.errand
-        ∙ ap (λ b. cond b (Some Refill) (command_kind s w alone rest (w.actors n) (w.actors n).command)) none-left
-        ∙ ap (λ (o : Option OpenCommand). command_kind s w alone rest (w.actors n) o) idle.command
-        ∙ ap (λ (r : Role). free_kind s w alone rest r) free.role
+    kind-is = idle-kind s w n idle alone rest ∙ ap (λ (r : Role). kind_or (reuse_for w (w.actors n) r) (free_kind s w alone rest r)) free.role
 
     step-is : actor_step s w alone rest (w.actors n) (w.actors n).errand ≡ option_map (λ k. Takes worker) (hand_kind s w worker)
-    step-is =
-        let idle = is-idle (w.actors n) free.idle in
-        ap (λ (e : Option ErrandValue). actor_step s w alone rest (w.actors n) e) idle.errand
-        ∙ ap (λ b. cond b (Some (AtPart (Tree GiveBack))) (command_step s w alone rest (w.actors n) (w.actors n).command)) none-left
-        ∙ ap (λ (o : Option OpenCommand). command_step s w alone rest (w.actors n) o) idle.command
-        ∙ ap (λ (r : Role). free_step s w alone rest r) free.role
-
-  -- it waits for nothing
-  meets-it : (k : Kind) → meets s w n k ≡ true
-  meets-it k =
-      let idle = is-idle (w.actors n) free.idle in
-      ap (λ (e : Option ErrandValue). option_map_or (is_block_free s w n) (option_and_then (λ (x : ErrandValue). wanted_of s w x k) e) true && is_drained w (w.actors n).job) idle.errand
-      ∙ ap (λ (j : Option JobValue). true && is_drained w j) idle.job
+    step-is = idle-step s w n idle alone rest ∙ ap (λ (r : Role). step_or (reuse_for w (w.actors n) r) (free_step s w alone rest r)) free.role
 
   takes : (b : Bool) → step_where (option_map_or (meets s w n) (cond b (Some TakePart) None) false) (option_map (λ k. Takes worker) (cond b (Some TakePart) None)) ≡ cond b (Some (Takes worker)) None
-  takes true = ap (λ c. step_where c (Some (Takes worker))) (meets-it TakePart)
+  takes true = ap (λ c. step_where c (Some (Takes worker))) (idle-meets s w n idle TakePart)
   takes false = refl
 
   pub hand-takes : (p : PhaseRun) (b : Bool) → hand_kind s w worker ≡ cond b (Some TakePart) None → due_step false s p w n ≡ cond b (Some (Takes worker)) None

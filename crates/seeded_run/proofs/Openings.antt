@@ -2,12 +2,13 @@
 use Rattle.std.proofs.{Common.{◌≡◌, ◌∙◌, ◌⊎◌, inl, inr, ℕ, zero, suc, ◌+◌, ◌-◌, ◌*◌, ◌<◌, ◌≤◌, List, [], ◌∷◌, ◌++◌, length, Bool, false, Option, Some, None, get_or, slice_get, refl, sym, ap, subst, arith}, lemmas.Bool.{cases_Bool, cases_lt}, lemmas.List.{append_assoc, length-append}, lemmas.Option.slice_get-get_or}
 use Rattle.std.specs.Prelude.{◌==◌, cond}
 use Rattle.dim_hierarchy.specs.Dimension.{Dimension}
+use Rattle.list_words.specs.Counts.{times}
 use Rattle.row_ledger.specs.{Past.{event_at, is_beginning}, Right.{EachEvent, IsFirstPull}, Site.Site, declared.event.Event.Event, declared.event.Event.TheVariants.Synced, declared.settings.Use.Use}
 use Rattle.script_form.specs.declared.script.Command.{Command}
 use Rattle.script_run.specs.{Between.{IsInOrder, IsThrough, NoneBegunLaw}, Runs.HasPulls}
-use Rattle.volap_cell.specs.{Cells.{CellValue, ledger_in}, Filling.{IsOpened, setting_for}, Numbering.{IsRoleOf, IsSetting}, Opening.IsOpening, Setting.{Setting, site_in}, Steps.history_in, declared.actor.Actor.Actor, declared.cell.Cell.Cell, declared.role.Role.Role, declared.role.Role.TheVariants.{Admin, Hand, Puller, Session}}
-use Rattle.seeded_run.specs.{Core.{HasCore, IsCore}, Kept.IsBetween, Phase.most_actors, Progress.AreScriptRoles, Roles.{CanOpen, hands_at, hands_of, roles_of, sessions_of}, Worlds.{setting_in, world_in}}
-use Rattle.seeded_run.proofs.Worlds.{one-setting, only-world}
+use Rattle.volap_cell.specs.{Cells.{CellValue, ledger_in, phase_of}, Filling.{IsOpened, setting_for}, Numbering.{IsRoleOf, IsSetting}, Opening.IsOpening, Reusing.is_gone, Setting.{Setting, site_in}, Steps.history_in, declared.actor.Actor.Actor, declared.cell.Cell.Cell, declared.role.Role.Role, declared.role.Role.TheVariants.{Admin, Hand, Puller, Session}}
+use Rattle.seeded_run.specs.{Core.{HasCore, IsCore}, Kept.{IsBetween, IsNoneGone}, Phase.most_actors, Progress.AreScriptRoles, Roles.{CanOpen, hands_at, hands_of, roles_of, sessions_of}, Worlds.{setting_in, world_in}}
+use Rattle.seeded_run.proofs.{Scripts.role-is, Worlds.{one-setting, only-world}}
 
 -- Who the actors are.
 
@@ -249,12 +250,25 @@ module _ (h : List Dimension) (with : Use) (roles : List Role) (roles_are : role
   pulls : EachEvent (IsFirstPull (site_in s)) history
   pulls = subst (EachEvent (IsFirstPull (site_in s))) (sym history-is) opened.opening.history.pulls
 
+  -- no gate is gone, as the administrator's list of them is empty
+  none-gone : IsNoneGone opened.world
+  none-gone c gone =
+      let admin = s.servers + 1 in
+      let script = script-roles with s refl roles_are in
+      let i = opened.inv.holds in
+      let listed : times c (opened.world.actors admin).gone_gates ≡ cond (is_gone (phase_of (opened.world.cells c))) 1 0 =
+      i.reusing.listed admin c (role-is s opened.world opened.inv.ghost_of i script admin Admin script.admin) in
+      let none : times c (opened.world.actors admin).gone_gates ≡ 0 = ap (times c) (opened.opening.actors admin).gone_gates in
+      let one : ◌≡◌ {A = ℕ} (cond (is_gone (phase_of (opened.world.cells c))) 1 0) 1 = ap (λ p. cond (is_gone p) 1 0) gone in
+      absurd (omega (arith, listed, none, one))
+
   between-before : NoneBegunLaw → (b : Bool) → IsBetween b s with [] opened.world
   between-before none_begun b =
       let through : IsThrough with h [] history = none_begun with h history (none-begins (site_in s) history pulls) (none-ends with (site_in s) history pulls) in
       record {
         through = through;
         idle = λ a. (let fresh = opened.opening.actors a in record { command = fresh.command; errand = fresh.errand; job = fresh.job; purse = fresh.purse; counted = fresh.counted });
+        none_gone = none-gone;
         ordered = λ order. in-order with h history through;
       }
 

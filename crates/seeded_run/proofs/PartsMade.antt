@@ -1,10 +1,10 @@
 -- The step that is due for a part is one of a part, and where it finds no memory, the end of the part stands for it.
 use Rattle.std.proofs.Common.{◌≡◌, ◌∙◌, ℕ, inl, inr, true, false, List, Option, Some, None, get_or, slice_get, IfSome, refl, sym, subst}
 use Rattle.std.specs.Prelude.{map, option_and_then, option_map}
-use Rattle.core_due.specs.{Parts.{due_kind, due_may_fail, ending}, Ready.MayMakeTree, Rows.{descent_of, down_by, down_for, row_of}, declared.parts.PartDue.PartDue}
+use Rattle.core_due.specs.{Parts.{due_kind, due_may_fail, ending}, Ready.MayMakeRow, Rows.{descent_of, down_by, down_for, row_of}, declared.parts.PartDue.PartDue}
 use Rattle.core_due.specs.declared.parts.PartDue.TheVariants.{Descends, Enters, Part, Tree}
 use Rattle.core_due.proofs.DueCases.{of-some}
-use Rattle.core_steps.specs.{Parts.{part_kind, part_may_fail}, Steps.{IsFurther, IsSame}, Trees.{tree_kind, tree_may_fail}, declared.parts.PartStep.PartStep, declared.trees.TreeStep.TreeStep}
+use Rattle.core_steps.specs.{Parts.{part_kind, part_may_fail}, Rows.row_kind, Steps.{IsFurther, IsSame}, Trees.{tree_kind, tree_may_fail}, declared.parts.PartStep.PartStep, declared.rows.RowStep.RowStep, declared.trees.TreeStep.TreeStep}
 use Rattle.core_steps.specs.declared.parts.PartStep.TheVariants as part
 use Rattle.core_steps.specs.declared.trees.TreeStep.TheVariants as tree
 use Rattle.dc_node.specs.{Block.entries_in, declared.entry.Entry.Entry}
@@ -35,8 +35,6 @@ tree-of-part (tree.ReadGate map gate) = refl
 tree-of-part (tree.VisitBlock block) = refl
 tree-of-part tree.Refill = refl
 tree-of-part tree.GiveBack = refl
-tree-of-part (tree.Down parent place child first second fresh) = refl
-tree-of-part (tree.EnterTree map gate root first second fresh top) = refl
 
 of-part : (due : PartDue) → is_of_part (due_kind due) ≡ true
 of-part (Part step) = step-of-part step
@@ -62,8 +60,6 @@ tree-ends tree.Refill fails = refl
 tree-ends (tree.PutInLeaf leaf) fails = cc
 tree-ends (tree.LeaveTree gate) fails = cc
 tree-ends tree.GiveBack fails = cc
-tree-ends (tree.Down parent place child first second fresh) fails = cc
-tree-ends (tree.EnterTree map gate root first second fresh top) fails = cc
 
 part-ends : (due : PartDue) → due_may_fail due ≡ true → in_place_of (due_kind due) ≡ Some FinishPart
 part-ends (Part step) fails = step-ends step fails
@@ -84,20 +80,20 @@ ending-sure s e (Some gate) = refl
 -- Steps that are found.
 
 -- the step that was found is the one that may be made
-pub found-may : (h : List Dimension) (state : State) (n : ℕ) (found : ActorValue → Option TreeStep) (step : TreeStep) → HasActor state n (λ a. IsFound h state n (found a)) → HasActor state n (λ a. found a ≡ Some step) → MayMakeTree h state n step
+pub found-may : (h : List Dimension) (state : State) (n : ℕ) (found : ActorValue → Option RowStep) (step : RowStep) → HasActor state n (λ a. IsFound h state n (found a)) → HasActor state n (λ a. found a ≡ Some step) → MayMakeRow h state n step
 found-may h state n found step may is =
     let k = stands (get_or state.actors.items n None) (λ a. IsFound h state n (found (actor_of a))) may in
     let same : found (actor_of k.0) ≡ Some step = of-it (get_or state.actors.items n None) (λ a. found (actor_of a) ≡ Some step) k.0 is k.1 in
-    subst (MayMakeTree h state n) (sym (Some-same (k.2).0 step (sym (k.2).1 ∙ same))) (k.2).2
+    subst (MayMakeRow h state n) (sym (Some-same (k.2).0 step (sym (k.2).1 ∙ same))) (k.2).2
 
 pub has-second : (state : State) (n : ℕ) (P Q : ActorValue → Type 0) → HasActor state n (λ a. P a × Q a) → HasActor state n Q
 has-second state n P Q both =
     let k = stands (get_or state.actors.items n None) (λ a. P (actor_of a) × Q (actor_of a)) both in
     is-some (get_or state.actors.items n None) (λ a. Q (actor_of a)) k.0 k.1 (k.2).1
 
--- a step down is of that kind, and takes no memory
-abbrev IsDown : TreeStep → Type 0
-IsDown step = (tree_kind step ≡ Down) × (tree_may_fail step ≡ false)
+-- a step down is of that kind
+abbrev IsDown : RowStep → Type 0
+IsDown step = row_kind step ≡ Down
 
 of-then : {A B : Type 0} (f : A → Option B) (o : Option A) (P : B → Type 0) → ((x : A) → IfSome (f x) P) → IfSome (option_and_then f o) P
 of-then f None P each = tt
@@ -112,9 +108,9 @@ descent-down h w a block =
     let entries = entries_in (block_in (w.cells block)).body in
     of-then (λ row. down_for h w a.purse block row entries) (row_of a.errand) IsDown (λ row.
     of-then (λ place. option_map (down_by w a.purse block place) (slice_get entries place)) (pick_place h row.at (map (λ (e : Entry). e.set) entries)) IsDown (λ place.
-    of-map (down_by w a.purse block place) (slice_get entries place) IsDown (λ entry. (refl, refl))))
+    of-map (down_by w a.purse block place) (slice_get entries place) IsDown (λ entry. refl)))
 
-pub is-down : (h : List Dimension) (w : World) (state : State) (n block : ℕ) (step : TreeStep) → HasActor state n (λ a. descent_of h w a block ≡ Some step) → (tree_kind step ≡ Down) × (tree_may_fail step ≡ false)
+pub is-down : (h : List Dimension) (w : World) (state : State) (n block : ℕ) (step : RowStep) → HasActor state n (λ a. descent_of h w a block ≡ Some step) → row_kind step ≡ Down
 is-down h w state n block step found =
     let k = stands (get_or state.actors.items n None) (λ a. descent_of h w (actor_of a) block ≡ Some step) found in
     of-some (descent_of h w (actor_of k.0) block) IsDown step (descent-down h w (actor_of k.0) block) k.2

@@ -2,11 +2,11 @@
 -- given back, and a hand may take a part that waits for its worker.
 use Rattle.std.proofs.{Common.{ℕ, zero, suc, ◌≡◌, ◌<◌, ◌||◌, ◌∙◌, Bool, true, false, List, [], length, Option, Some, None, get_or, refl, sym, ap, subst, arith, if◌then◌else◌}, lemmas.List.Folds.Any-from_list_any}
 use Rattle.std.specs.{List.list_any, Prelude.{IsSome, position}}
-use Rattle.core_due.specs.{Awaited.IsAwaited, Due.{any_below, hand_kind}, Laws.IsDueAt, Look.{cell_at, cells_only, setting_by, world_by}, Parts.{due_kind, ending, part_due}, Ready.{CanDescend, HasSpares, IsDescending, IsEntering, IsFreeFor, IsPartPrepared, IsPartReady, IsStateOf, IsStepAsked, MayMakePart}, Rows.{descent_of, entrance_of}, Wants.meets, declared.parts.PartDue.PartDue}
+use Rattle.core_due.specs.{Awaited.IsAwaited, Due.{any_below, hand_kind}, Laws.IsDueAt, Look.{cell_at, cells_only, setting_by, world_by}, Parts.{due_kind, ending, part_due}, Ready.{CanDescend, HasSpares, IsDescending, IsEntering, IsFree, IsPartPrepared, IsPartReady, IsStateOf, IsStepAsked, MayMakePart, head_of}, Rows.{descent_of, entrance_of}, Wants.meets, declared.parts.PartDue.PartDue}
 use Rattle.core_due.specs.declared.parts.PartDue.TheVariants.{Descends, Enters, Part, Tree}
 use Rattle.core_due.proofs.{AtParts.part-there, BooksHeld.take-prepared, InStates.{cells-seen, part-may, still-state, tree-may}, PartsReady.{can-descend, down-prepared, down-ready, ends-ready, in-prepared, in-ready, is-free, is-prepared, is-ready}, StepsPrepared.spares-prepared}
 use Rattle.core_shard.proofs.FinishReady.{first-place}
-use Rattle.core_steps.specs.Steps.{IsSound}
+use Rattle.core_steps.specs.{Steps.IsSound, declared.rows.RowStep.RowStep}
 use Rattle.core_steps.specs.declared.parts.PartStep.TheVariants.{TakePart}
 use Rattle.core_steps.specs.declared.trees.TreeStep.TheVariants.{GiveBack}
 use Rattle.dim_hierarchy.specs.Dimension.{Dimension}
@@ -72,7 +72,7 @@ module _ (h : List Dimension) (with : Use) (state : State) (s : Setting) (w : Wo
       let p = in-prepared s w n of.inv map gate d in
       let r = in-ready h with state s w of n map gate d in
       let same : p.0 ≡ r.0 = sym (Some-same p.0 r.0 (sym p.1 ∙ ap (λ (f : ℕ → CellValue). entrance_of (cells_only f) (w.actors n).purse map gate) (seen h with state s w of) ∙ r.1)) in
-      has-actor h with state s w of n here (λ a. IsFound h state n (entrance_of (world_by state.cells.items) a.purse map gate)) (r.0, r.1, r.2 (subst (IsFreeFor w n) same (p.3 free)))
+      has-actor h with state s w of n here (λ a. IsFound h state n (entrance_of (world_by state.cells.items) a.purse map gate)) (r.0, r.1, r.2 (subst (λ (x : RowStep). IsFree w n (head_of x)) same (p.3 free)))
 
   descends : (block : ℕ) → IsDescending w n block → meets s w n kind.Down ≡ true → MayGoOn h state n (Descends block)
   descends block d free =
@@ -82,7 +82,7 @@ module _ (h : List Dimension) (with : Use) (state : State) (s : Setting) (w : Wo
       ap (λ (g : List Dimension). descent_of g w (w.actors n) block) of.hierarchy ∙ ap (λ (f : ℕ → CellValue). descent_of h (cells_only f) (w.actors n) block) (seen h with state s w of) in
       let same : p.0 ≡ r.0 = sym (Some-same p.0 r.0 (sym p.1 ∙ found ∙ r.1)) in
       has-actor h with state s w of n here (λ a. CanDescend h state.cells.items a block × IsFound h state n (descent_of h (world_by state.cells.items) a block))
-      (can-descend h with state s w of n block d, (r.0, r.1, r.2 (subst (IsFreeFor w n) same (p.3 free))))
+      (can-descend h with state s w of n block d, (r.0, r.1, r.2 (subst (λ (x : RowStep). IsFree w n (head_of x)) same (p.3 free))))
 
   goes-on : meets s w n (due_kind due) ≡ true → MayGoOn h state n due
   goes-on free = by due at.1 free (is-prepared s w n of.inv e at.0 due at.1) (is-ready h with state s w of n e at.0 due at.1)

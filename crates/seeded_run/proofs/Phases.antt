@@ -7,6 +7,7 @@ pub mod Measure
 pub mod Progress
 pub mod Movers
 pub mod Ends
+pub mod InTurn
 pub mod Orders
 pub mod OneTurn
 pub mod PhaseRuns

@@ -16,7 +16,7 @@ use Rattle.volap_cell.specs.declared.role.Role.TheVariants as role
 use Rattle.core_due.proofs.InStates.{cells-seen}
 use Rattle.core_due.specs.{Due.{all_below, desk_of, is_empty_desk}, Look.{cell_at, setting_by, world_by}, Wants.{is_block_free, is_carried_at, is_drained, meets, wanted_of}}
 use Rattle.seeded_run.proofs.{Due.DueSteps.no-both, Holding.Others.all-same, Looks.{due-seen, step-seen}, Phases.Progress.session-within, Scripts.session-is, Seen.{core-seen, wanted-told, world-seen}}
-use Rattle.seeded_run.specs.{Core.IsCore, Due.{actor_kind, due_by}, DueSteps.{KnowsBytes, actor_step, step_due_by, step_where}, Look.{IsTold, ahead, alone_by}, Takes.{AsksHere, CanPick, HasDeskFor, carries_at, free_by, is_free_by}, declared.turn.DueStep.DueStep}
+use Rattle.seeded_run.specs.{Can.is_turn_of, Core.IsCore, Due.{actor_kind, due_by}, DueSteps.{KnowsBytes, actor_step, step_due_by, step_where}, Look.{IsTold, ahead, alone_by}, Takes.{AsksHere, CanPick, HasDeskFor, carries_at, free_by, is_free_by}, declared.turn.DueStep.DueStep}
 
 -- Who carries a row there.
 
@@ -146,13 +146,29 @@ module _ (h : List Dimension) (with : Use) (cells : List (Option Cell)) (actors 
 
 -- In order.
 
-pub in-turn : (in_order : Bool) (first opened : Option ℕ) (n : ℕ) (x : Bool) → (in_order ≡ true → opened ≡ first)
-    → (if in_order then option_map_or (λ m. m == n) opened false && x else x) ≡ ((not in_order || option_map_or (λ m. m == n) first false) && x)
-in-turn true first opened n x same = ap (λ o. option_map_or (λ m. m == n) o false && x) (same refl)
-in-turn false first opened n x same = refl
+pub in-turn : (in_order : Bool) (first opened : Option ℕ) (n : ℕ) (k : Option Kind) (x : Bool) → (in_order ≡ true → opened ≡ first)
+    → (if in_order then is_turn_of opened n k && x else x) ≡ ((not in_order || is_turn_of first n k) && x)
+in-turn true first opened n k x same = ap (λ o. is_turn_of o n k && x) (same refl)
+in-turn false first opened n k x same = refl
+
+-- where a command isn't over, it is its actor's turn and nobody else's
+
+pub own-turn : (any : Bool) (first : Option ℕ) (n : ℕ) (k : Option Kind) → (any || option_map_or (λ m. m == n) first false) ≡ true → (any || is_turn_of first n k) ≡ true
+own-turn true first n k is = refl
+own-turn false (Some m) n k is = is
+own-turn false None n k is = cc
+
+pub other-turn : (any : Bool) (first : Option ℕ) (m n : ℕ) (k : Option Kind) → first ≡ Some m → (any || option_map_or (λ m. m == n) first false) ≡ false → (any || is_turn_of first n k) ≡ false
+other-turn any None m n k some is = cc
+other-turn any (Some y) m n k some is = is
 
 -- in order it is the turn of whose command the first is
 pub its-turn : (in_order : Bool) (first : Option ℕ) (n : ℕ) → (not in_order || option_map_or (λ m. m == n) first false) ≡ true → in_order ≡ true → first ≡ Some n
 its-turn false first n is order = cc
 its-turn true None n is order = cc
 its-turn true (Some m) n is order = ap Some (eqb-true m n is)
+
+-- and else they do go in order
+pub orders : (in_order : Bool) (first : Option ℕ) (n : ℕ) → (not in_order || option_map_or (λ m. m == n) first false) ≡ false → in_order ≡ true
+orders true first n is = refl
+orders false first n is = cc

@@ -16,10 +16,11 @@ use Rattle.shard_plan.specs.declared.action.Action.{Action}
 use Rattle.list_words.specs.Counts.{Each}
 use Rattle.list_words.proofs.Truth.{on_bool}
 use Rattle.volap_cell.proofs.{Cells.Numbers.at-ledger, Views.Frames.{AreAt, actor-at, actor-off}}
-use Rattle.volap_cell.specs.{AdminKinds.{DoesFreeze, Finishes, GivesUp, MovesIn, PushesBoth}, Cells.{CellValue, Tag, TheLedger, FreeCell, LedgerCell, StockCell, RegistryCell, ImageCell, DeskCell, MapCell, GateCell, BlockCell, tag_of, ledger_in}, Commands.{EndsBalance, EndsStage, MayNoteEnd, due_pull, server_of}, Ghost.Ghost, ImageKinds.{DoesNote, DoesNoteWith, IsBegun, IsFree, NotesCalled, NotesEnded, OfCalled, OfCalledAsking, OfCount, OfEnded, OfLeft, OfQuery, OfRefused, OfShown, OfUnknown, OfUnrouted, Pushes, doing}, Invariant.InvWith, Kinds.Does, Planning.{job_for, next_job}, Setting.{Setting, ledger_cell}, ShardKinds.{PutsChildren, Unpins}, Steps.history_in, TreeKinds.{AreBehind, AreFilled, IsTailIf, most_behind}, Values.{ActorValue, ErrandValue, TaskValue, OfRow, Unread, Read, JobValue, StageValue, IsCalled, IsDeclined, IsFrozen, Collects, Builds}, View.view, Working.{IsJobOf, begun_job, frozen_in}, World.{World, Change, Agrees, after, put}, declared.command.Balance.Balance, declared.command.Command.Command as OpenCommand, declared.command.Work.Work, declared.kind.Kind.Kind, declared.role.Role.Role, declared.role.Role.TheVariants.{Admin, Session}}
+use Rattle.volap_cell.specs.{AdminKinds.{DoesFreeze, Finishes, GivesUp, MovesIn, PushesBoth}, Cells.{CellValue, Tag, TheLedger, FreeCell, LedgerCell, StockCell, RegistryCell, ImageCell, DeskCell, MapCell, GateCell, BlockCell, tag_of, ledger_in}, Commands.{EndsBalance, EndsStage, MayNoteEnd, due_pull, server_of}, Ghost.Ghost, ImageKinds.{DoesNote, DoesNoteWith, IsBegun, IsFree, NotesCalled, NotesEnded, OfCalled, OfCalledAsking, OfCount, OfEnded, OfLeft, OfQuery, OfRefused, OfShown, OfUnknown, OfUnrouted, Pushes, doing}, Invariant.InvWith, Kinds.Does, Planning.{job_for, next_job}, Setting.{Setting, ledger_cell}, ShardKinds.{PutsChildren, Unpins}, Steps.{Step, history_in}, TreeKinds.{AreBehind, AreFilled, IsTailIf, most_behind}, Values.{ActorValue, ErrandValue, TaskValue, OfRow, Unread, Read, JobValue, StageValue, IsCalled, IsDeclined, IsFrozen, Collects, Builds}, View.view, Working.{IsJobOf, begun_job, frozen_in}, World.{World, Change, Agrees, after, put}, declared.command.Balance.Balance, declared.command.Command.Command as OpenCommand, declared.command.Work.Work, declared.kind.Kind.Kind, declared.role.Role.Role, declared.role.Role.TheVariants.{Admin, Session}}
 use Rattle.volap_cell.specs.declared.command.Work.TheVariants as work_is
 use Rattle.volap_cell.specs.declared.kind.Kind.TheVariants as kind
-use Rattle.seeded_run.specs.{Running.{HasPulled, is_closing_work}, Told.{GoesFurther, IsEnd, OfBeginning, OfDeed, OfEnd, OfNothing, OfPage, OfPull, OpensCommand, OpensNone, OpensOne, OthersLaw, Told, ToldLaw, is_deed, is_of_part, is_plain}}
+use Rattle.core_due.specs.Due.{does_nothing}
+use Rattle.seeded_run.specs.{Running.{HasPulled, is_closing_work}, Told.{GoesFurther, IsEnd, OfBeginning, OfDeed, OfEnd, OfNothing, OfPage, OfPull, OpensCommand, OpensNone, OpensOne, OthersLaw, TellsNothing, Told, ToldLaw, is_deed, is_of_part, is_plain}}
 
 -- The ledger's cell.
 
@@ -230,12 +231,15 @@ module _ (s : Setting) (n : ℕ) (w : World) (g : Ghost) (i : InvWith s (view s 
       → history_in (after w (front ++ l ∷ []) n b) ≡ e ∷ history_in w
   pushed front l b e more used seen p made off = told-more front l b p.ledger p.ledger_now (e ∷ []) made off p.was p.is p.history
 
-  nothing : (k : Kind) (cs : List Change) (b : ActorValue) → IsMade cs b → Each IsOff cs → (b.command ≡ (w.actors n).command) ⊎ GoesFurther (w.actors n).command b.command
-      → Told s k n w (after w cs n b)
-  nothing k cs b made off stays = OfNothing (record {
+  tells-nothing : (cs : List Change) (b : ActorValue) → IsMade cs b → Each IsOff cs → (b.command ≡ (w.actors n).command) ⊎ GoesFurther (w.actors n).command b.command → TellsNothing n w (after w cs n b)
+  tells-nothing cs b made off stays = record {
     history = ap (λ c. (ledger_in c).history) (quiet cs w.cells ledger_cell made.agrees.cells off made.tag);
     stays = subst (λ o. (o ≡ (w.actors n).command) ⊎ GoesFurther (w.actors n).command o) (sym (field-at (λ x. x.command) cs b)) stays;
-  })
+  }
+
+  nothing : (k : Kind) (cs : List Change) (b : ActorValue) → IsMade cs b → Each IsOff cs → (b.command ≡ (w.actors n).command) ⊎ GoesFurther (w.actors n).command b.command
+      → Told s k n w (after w cs n b)
+  nothing k cs b made off stays = OfNothing (tells-nothing cs b made off stays)
 
   quietly : (k : Kind) (cs : List Change) (b c : ActorValue) → IsMade cs b → Each IsOff cs → b ≡ c → c.command ≡ (w.actors n).command → Told s k n w (after w cs n b)
   quietly k cs b c made off is same = nothing k cs b made off (inl (ap (λ (x : ActorValue). x.command) is ∙ same))
@@ -360,22 +364,24 @@ module _ (s : Setting) (n : ℕ) (w : World) (g : Ghost) (i : InvWith s (view s 
   -- A split or a move that is done, and one that is given up.
   module _ (k : Kind) (of_command : is_of_part k ≡ false) (front : List Change) (l : Change) (b : ActorValue) (of : ℕ) (job : JobValue) (at : (w.actors n).job ≡ Some job)
       (made : IsMade (front ++ l ∷ []) b) (off : Each (λ c. tag_of c.now ≢ TheLedger) front) where
-    both : (work : Work) (e : Event) → is_deed e ≡ true → (w.actors n).command ≡ doing of work
-        → PushesBoth e (event.Ended of how.Fine) l b.seen × (b ≡ record (w.actors n) { purse = []; seen = b.seen; command = None; job = None }) → Told s k n w (after w (front ++ l ∷ []) n b)
-    both work e is_that was (p, is) =
+    both : (gate : ℕ) (work : Work) (e : Event) → is_deed e ≡ true → (w.actors n).command ≡ doing of work
+        → PushesBoth e (event.Ended of how.Fine) l b.seen
+        × (b ≡ record (w.actors n) { purse = []; seen = b.seen; command = None; job = None; gone_gates = (w.actors n).gone_gates ++ gate ∷ [] })
+        → Told s k n w (after w (front ++ l ∷ []) n b)
+    both gate work e is_that was (p, is) =
         ends k front l b (event.Ended of how.Fine) (e ∷ []) of work (told-more front l b p.ledger p.ledger_now (event.Ended of how.Fine ∷ e ∷ []) made off p.was p.is p.history)
         (inr (e, refl, is_that)) (refl, inl (plain-job work job (job-of of work job was at))) of_command was
         (ap (λ (x : ActorValue). x.command) is) (ap (λ (x : ActorValue). x.job) is) (ap (λ (x : ActorValue). x.errand) is) (inl (ap (λ (x : ActorValue). x.purse) is))
 
-    finishes : (work : Work) (e : Event) → is_deed e ≡ true → (w.actors n).command ≡ doing of work → Finishes of work job e l (w.actors n) b → Told s k n w (after w (front ++ l ∷ []) n b)
-    finishes (work_is.Balance balance) e is_that was (p, is) = deed k front l b e of 0 1 balance _ p made off is_that was (ap (λ (x : ActorValue). x.command) is)
-    finishes (work_is.Insert row routed) e is_that was f = both (work_is.Insert row routed) e is_that was f
-    finishes work_is.Query e is_that was f = both work_is.Query e is_that was f
-    finishes (work_is.Sync server pulled) e is_that was f = both (work_is.Sync server pulled) e is_that was f
-    finishes work_is.Bare e is_that was f = both work_is.Bare e is_that was f
-    finishes (work_is.Settle pulls) e is_that was f = both (work_is.Settle pulls) e is_that was f
-    finishes (work_is.Page subject there shown) e is_that was f = both (work_is.Page subject there shown) e is_that was f
-    finishes (work_is.Action act) e is_that was f = both (work_is.Action act) e is_that was f
+    finishes : (gate : ℕ) (work : Work) (e : Event) → is_deed e ≡ true → (w.actors n).command ≡ doing of work → Finishes gate of work job e l (w.actors n) b → Told s k n w (after w (front ++ l ∷ []) n b)
+    finishes gate (work_is.Balance balance) e is_that was (p, is) = deed k front l b e of 0 1 balance _ p made off is_that was (ap (λ (x : ActorValue). x.command) is)
+    finishes gate (work_is.Insert row routed) e is_that was f = both gate (work_is.Insert row routed) e is_that was f
+    finishes gate work_is.Query e is_that was f = both gate work_is.Query e is_that was f
+    finishes gate (work_is.Sync server pulled) e is_that was f = both gate (work_is.Sync server pulled) e is_that was f
+    finishes gate work_is.Bare e is_that was f = both gate work_is.Bare e is_that was f
+    finishes gate (work_is.Settle pulls) e is_that was f = both gate (work_is.Settle pulls) e is_that was f
+    finishes gate (work_is.Page subject there shown) e is_that was f = both gate (work_is.Page subject there shown) e is_that was f
+    finishes gate (work_is.Action act) e is_that was f = both gate (work_is.Action act) e is_that was f
 
     one : (work : Work) → (w.actors n).command ≡ doing of work
         → Pushes (event.Ended of how.Postponed) 0 2 l b.seen × (b ≡ record (w.actors n) { purse = []; seen = b.seen; command = None; job = None }) → Told s k n w (after w (front ++ l ∷ []) n b)
@@ -429,6 +435,16 @@ module _ (s : Setting) (n : ℕ) (w : World) (g : Ghost) (i : InvWith s (view s 
   note-with c l b made (OfCalledAsking registry asked d) = called kind.Note (c ∷ []) l b registry true d made (of-registry c.now registry (asked.same ∙ asked.was), tt) refl
   note-with c l b made (OfUnrouted d) = session-ends kind.Note (c ∷ []) l b (event.Failed d.of) d.of _ _ _ d.server d.failed made (of-image c.now d.server _ d.turns.is, tt) refl refl refl d.command d.role d.actor_is
   note-with c l b made (OfQuery d) = session-ends kind.Note (c ∷ []) l b (event.Failed d.of) d.of _ _ _ d.server d.failed made (of-desk c.now d.server _ d.refused.clear.is, tt) refl refl refl d.command d.role d.actor_is
+
+  -- a cell that is used again
+  reuses : (cs : List Change) (b : ActorValue) → IsMade cs b → Does s.hierarchy kind.Reuse cs (w.actors n) b → TellsNothing n w (after w cs n b)
+  reuses [] b made d = absurd d
+  reuses (c0 ∷ []) b made d = absurd d
+  reuses (x ∷ c ∷ []) b made d =
+      tells-nothing (x ∷ c ∷ []) b made (inl (of-free x.now d.freed), (inl (of-stock c.now _ d.frees.is), tt)) (inl (ap (λ (y : ActorValue). y.command) d.actor_is))
+  reuses (x ∷ y ∷ c ∷ []) b made d =
+      tells-nothing (x ∷ y ∷ c ∷ []) b made (inl (of-gate x.now _ d.turns.is), (inl (of-free y.now d.freed), (inl (of-stock c.now _ d.frees.is), tt))) (inl (ap (λ (z : ActorValue). z.command) d.actor_is))
+  reuses (c0 ∷ c1 ∷ c2 ∷ c3 ∷ more) b made d = absurd d
 
   told-of : (k : Kind) (cs : List Change) (b : ActorValue) → IsMade cs b → Does s.hierarchy k cs (w.actors n) b → Told s k n w (after w cs n b)
   told-of kind.GateRead [] b made d = absurd d
@@ -568,7 +584,7 @@ module _ (s : Setting) (n : ℕ) (w : World) (g : Ghost) (i : InvWith s (view s 
   told-of kind.FinishSplit (c0 ∷ c1 ∷ c2 ∷ c3 ∷ c4 ∷ c5 ∷ []) b made d = absurd d
   told-of kind.FinishSplit (m ∷ x ∷ y ∷ r ∷ reg ∷ c ∷ l ∷ []) b made d = finishes kind.FinishSplit refl (m ∷ x ∷ y ∷ r ∷ reg ∷ c ∷ []) l b d.of d.job d.has.is_job made
       (of-map m.now d.job.worker _ d.map_is, (of-gate x.now _ d.turns.is, (of-gate y.now _ d.left_now, (of-gate r.now _ d.right_now, (of-registry reg.now _ d.registry_is, (of-stock c.now _ d.turns_stock.is, tt))))))
-      d.work _ refl d.command d.finishes
+      x.number d.work _ refl d.command d.finishes
   told-of kind.FinishSplit (c0 ∷ c1 ∷ c2 ∷ c3 ∷ c4 ∷ c5 ∷ c6 ∷ c7 ∷ more) b made d = absurd d
   told-of kind.FinishMove [] b made d = absurd d
   told-of kind.FinishMove (c0 ∷ []) b made d = absurd d
@@ -578,29 +594,38 @@ module _ (s : Setting) (n : ℕ) (w : World) (g : Ghost) (i : InvWith s (view s 
   told-of kind.FinishMove (c0 ∷ c1 ∷ c2 ∷ c3 ∷ c4 ∷ []) b made d = absurd d
   told-of kind.FinishMove (m ∷ x ∷ y ∷ reg ∷ c ∷ l ∷ []) b made d = finishes kind.FinishMove refl (m ∷ x ∷ y ∷ reg ∷ c ∷ []) l b d.of d.job d.has.is_job made
       ((moves-off (m ∷ []) d.job d.to y.number d.moves).0, (of-gate x.now _ d.turns.is, (of-gate y.now _ d.new_now, (of-registry reg.now _ d.registry_is, (of-stock c.now _ d.turns_stock.is, tt)))))
-      d.work _ refl d.command d.finishes
+      x.number d.work _ refl d.command d.finishes
   told-of kind.FinishMove (m ∷ z ∷ x ∷ y ∷ reg ∷ c ∷ l ∷ []) b made d = finishes kind.FinishMove refl (m ∷ z ∷ x ∷ y ∷ reg ∷ c ∷ []) l b d.of d.job d.has.is_job made
       ((moves-off (m ∷ z ∷ []) d.job d.to y.number d.moves).0, ((moves-off (m ∷ z ∷ []) d.job d.to y.number d.moves).1.0, (of-gate x.now _ d.turns.is, (of-gate y.now _ d.new_now, (of-registry reg.now _ d.registry_is, (of-stock c.now _ d.turns_stock.is, tt))))))
-      d.work _ refl d.command d.finishes
+      x.number d.work _ refl d.command d.finishes
   told-of kind.FinishMove (c0 ∷ c1 ∷ c2 ∷ c3 ∷ c4 ∷ c5 ∷ c6 ∷ c7 ∷ more) b made d = absurd d
   told-of kind.Postpone [] b made d = absurd d
   told-of kind.Postpone (c0 ∷ []) b made d = absurd d
   told-of kind.Postpone (c ∷ l ∷ []) b made d = gives-up kind.Postpone refl (c ∷ []) l b d.of d.job d.is_job made (of-stock c.now _ d.turns.is, tt) d.work d.command d.gives_up
   told-of kind.Postpone (c0 ∷ c1 ∷ c2 ∷ more) b made d = absurd d
-  told-of kind.Reuse [] b made d = absurd d
-  told-of kind.Reuse (c0 ∷ []) b made d = absurd d
-  told-of kind.Reuse (x ∷ c ∷ []) b made d = elim d.frees [
-    | inl some ↦ quietly kind.Reuse (x ∷ c ∷ []) b _ made (inl (of-gate x.now _ some.3.is), (inl (of-stock c.now _ some.4.is), tt)) d.actor_is refl
-    | inr none ↦ quietly kind.Reuse (x ∷ c ∷ []) b _ made (inl (of-free x.now none.2), (inl (of-stock c.now _ none.3.is), tt)) d.actor_is refl
-  ]
-  told-of kind.Reuse (c0 ∷ c1 ∷ c2 ∷ more) b made d = absurd d
+  told-of kind.Reuse cs b made d = OfNothing (reuses cs b made d)
+
+-- a step's changes lead to its state
+is-made : (s : Setting) (k : Kind) (n : ℕ) (w now : World) (g_now : Ghost) → InvWith s (view s now) g_now → (g : Ghost) (i : InvWith s (view s w) g) (step : Step s k n w now) → IsMade s n w g i step.changes step.actor
+is-made s k n w now g_now i_now g i step = record { agrees = step.agrees; tag = subst (λ (x : World). tag_of (x.cells ledger_cell) ≡ TheLedger) step.now_is (i_now.numbering.tag ledger_cell) }
 
 pub told-law : ToldLaw
-told-law s k n w now g g_now i i_now step =
-    let tag : tag_of (now.cells ledger_cell) ≡ TheLedger = i_now.numbering.tag ledger_cell in
-    subst (Told s k n w) (sym step.now_is)
-    (told-of s n w g i k step.changes step.actor
-    (record { agrees = step.agrees; tag = subst (λ (x : World). tag_of (x.cells ledger_cell) ≡ TheLedger) step.now_is tag }) step.does)
+told-law s k n w now g g_now i i_now step = subst (Told s k n w) (sym step.now_is) (told-of s n w g i k step.changes step.actor (is-made s k n w now g_now i_now g i step) step.does)
+
+-- where a cell is used again nothing is told, and its actor has to do what it had
+pub reuse-tells : (s : Setting) (n : ℕ) (w now : World) (g g_now : Ghost) → InvWith s (view s w) g → InvWith s (view s now) g_now → Step s kind.Reuse n w now → TellsNothing n w now
+reuse-tells s n w now g g_now i i_now step =
+    subst (TellsNothing n w) (sym step.now_is) (reuses s n w g i step.changes step.actor (is-made s kind.Reuse n w now g_now i_now g i step) step.does)
+
+pub reuse-keeps : (s : Setting) (n : ℕ) (w now : World) → Step s kind.Reuse n w now → does_nothing (now.actors n) ≡ does_nothing (w.actors n)
+reuse-keeps s n w now step = ap (λ (x : World). does_nothing (x.actors n)) step.now_is ∙ ap does_nothing (actor-at w.actors n step.actor) ∙ by step.changes step.actor step.does
+  where
+    by : (cs : List Change) (b : ActorValue) → Does s.hierarchy kind.Reuse cs (w.actors n) b → does_nothing b ≡ does_nothing (w.actors n)
+    by [] b d = absurd d
+    by (c0 ∷ []) b d = absurd d
+    by (x ∷ c ∷ []) b d = ap does_nothing d.actor_is
+    by (x ∷ y ∷ c ∷ []) b d = ap does_nothing d.actor_is
+    by (c0 ∷ c1 ∷ c2 ∷ c3 ∷ more) b d = absurd d
 
 pub others-law : OthersLaw
 others-law s k n w now a step apart = ap (λ (x : World). x.actors a) step.now_is ∙ actor-off w.actors n step.actor a apart

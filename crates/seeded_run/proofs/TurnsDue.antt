@@ -4,7 +4,7 @@ use Rattle.std.proofs.Common.{◌≡◌, ℕ, Bool, true, false, not, is_none, �
 use Rattle.std.specs.{List.list_any, Option.option_map_or, Prelude.if◌then◌else◌}
 use Rattle.core_steps.specs.declared.books.BookStep.{BookStep}
 use Rattle.core_steps.specs.declared.books.BookStep.TheVariants as book
-use Rattle.core_steps.specs.declared.trees.TreeStep.TheVariants.{GiveBack}
+use Rattle.core_steps.specs.declared.{reuses.ReuseStep.ReuseStep, trees.TreeStep.TheVariants.GiveBack}
 use Rattle.query_router.specs.{Desk.{is_waiting, verdict_of}, declared.part.Part.Part, declared.part.Verdict.Verdict}
 use Rattle.query_router.specs.declared.part.Verdict.TheVariants as verdict
 use Rattle.row_ledger.specs.{declared.class.Subject.Subject, declared.event.Event.Event}
@@ -13,9 +13,10 @@ use Rattle.volap_cell.specs.{Cells.{desk_in, ledger_in}, Setting.{Setting, desk_
 use Rattle.volap_cell.specs.declared.command.Work.TheVariants as work_is
 use Rattle.volap_cell.specs.declared.kind.Kind.TheVariants as kind
 use Rattle.volap_cell.specs.declared.role.Role.TheVariants as role
-use Rattle.core_due.specs.{Due.{desk_of, is_empty, is_empty_desk, kind_at_empty, kind_by_verdict, parts_kind, there_kind, work_kind}, Works.{insert_due, page_due, query_due, route_due, verdict_due, work_due}, declared.parts.PartDue.TheVariants.Tree, declared.works.WorkDue.WorkDue}
+use Rattle.core_due.specs.{Due.{desk_of, is_empty, is_empty_desk, kind_at_empty, kind_by_verdict, parts_kind, there_kind, work_kind}, Reuses.reuse_due, Works.{insert_due, page_due, query_due, route_due, verdict_due, work_due}, declared.parts.PartDue.TheVariants.Tree, declared.works.WorkDue.WorkDue}
 use Rattle.core_due.specs.declared.works.WorkDue.TheVariants.{Books, Shows, Takes}
-use Rattle.seeded_run.specs.{Due.{command_kind, free_kind, purse_kind}, DueSteps.{command_step, free_step, purse_step, step_where}, declared.turn.DueStep.TheVariants.{AtPart, AtWork, Begins}}
+use Rattle.seeded_run.specs.{Due.{command_kind, free_kind, kind_or, purse_kind}, DueSteps.{command_step, free_step, purse_step, step_or, step_where}, declared.turn.DueStep.DueStep}
+use Rattle.seeded_run.specs.declared.turn.DueStep.TheVariants.{AtPart, AtWork, Begins}
 
 some-none : {X : Type 0} (k : Kind) → ◌≡◌ {A = Option Kind} (Some k) None → X
 some-none k e = cc
@@ -80,8 +81,12 @@ module _ (s : Setting) (w : World) where
     free-none role.Puller e = ap (option_map (λ k. Begins)) e
     free-none role.Admin e = ap (option_map (λ k. Begins)) e
 
+    or-none : (o : Option ReuseStep) (k : Option Kind) (x : Option DueStep) → (k ≡ None → x ≡ None) → kind_or o k ≡ None → step_or o x ≡ None
+    or-none None k x none e = none e
+    or-none (Some step) k x none e = some-none kind.Reuse e
+
     command-none : (a : ActorValue) (o : Option OpenCommand) → command_kind s w alone rest a o ≡ None → command_step s w alone rest a o ≡ None
-    command-none a None e = free-none a.role e
+    command-none a None e = or-none (reuse_due w a) (free_kind s w alone rest a.role) (free_step s w alone rest a.role) (free-none a.role) e
     command-none a (Some c) e = ap (option_map AtWork) (work-none (ledger_in (w.cells ledger_cell)).history alone a c.of c.work e)
 
     purse-none : (a : ActorValue) → purse_kind s w alone rest a ≡ None → purse_step s w alone rest a ≡ None

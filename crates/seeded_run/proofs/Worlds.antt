@@ -33,6 +33,7 @@ is-fresh s a x past same is_fresh =
       command = is_fresh.command k;
       errand = is_fresh.errand k;
       job = is_fresh.job k;
+      gone_gates = is_fresh.gone_gates k;
     })
 
 module _ (h : List Dimension) (with : Use) (cells : List (Option Cell)) (actors : List (Option Actor)) (s : Setting) (w : World) (core : IsCore h with cells actors s w) where

@@ -1,9 +1,9 @@
 -- What the steps that an actor makes ask of a state that one thread holds.
 use Rattle.std.specs.Prelude.{ℕ, ◌≡◌, ⊤, [], Bool, true, false, List, None, Option, Some, get_or}
-use Rattle.core_due.specs.{Awaited.IsAwaited, Look.{setting_by, world_by}, Parts.{due_may_fail, ending}, Ready.{CanDescend, MayMakePart, MayMakeTree}, Rows.{descent_of, entrance_of}, WorksReady.{IsInsteadReady, IsStopFor, MayMakeBook, MayMakeJob, MayMakeNote}, declared.parts.PartDue.PartDue, declared.works.WorkDue.WorkDue}
+use Rattle.core_due.specs.{Awaited.IsAwaited, Look.{setting_by, world_by}, Parts.{due_may_fail, ending}, Ready.{CanDescend, MayMakePart, MayMakeRow, MayMakeTree}, Rows.{descent_of, entrance_of}, WorksReady.{IsInsteadReady, IsStopFor, MayMakeBook, MayMakeJob, MayMakeNote}, declared.parts.PartDue.PartDue, declared.works.WorkDue.WorkDue}
 use Rattle.core_due.specs.declared.parts.PartDue.TheVariants.{Descends, Enters, Part, Tree}
 use Rattle.core_due.specs.declared.works.WorkDue.TheVariants.{Shows}
-use Rattle.core_steps.specs.{Steps.{IsSame, IsSound}, declared.books.BookStep.BookStep, declared.jobs.JobStep.JobStep, declared.trees.TreeStep.TreeStep}
+use Rattle.core_steps.specs.{Steps.{IsSame, IsSound}, declared.books.BookStep.BookStep, declared.jobs.JobStep.JobStep, declared.rows.RowStep.RowStep}
 use Rattle.core_steps.specs.declared.books.BookStep.TheVariants as book
 use Rattle.core_steps.specs.declared.jobs.JobStep.TheVariants as job
 use Rattle.core_steps.specs.declared.notes.NoteStep.TheVariants as note
@@ -24,8 +24,8 @@ HasActor state n P = Has (get_or state.actors.items n None) (λ a. P (actor_of a
 -- Parts.
 
 -- a step that is found may be made
-abbrev pub IsFound : List Dimension → State → ℕ → Option TreeStep → Type 0
-IsFound h state n found = (step : TreeStep) × (found ≡ Some step) × MayMakeTree h state n step
+abbrev pub IsFound : List Dimension → State → ℕ → Option RowStep → Type 0
+IsFound h state n found = (step : RowStep) × (found ≡ Some step) × MayMakeRow h state n step
 
 -- what is due for a part may be made
 abbrev pub MayGoOn : List Dimension → State → ℕ → PartDue → Type 0

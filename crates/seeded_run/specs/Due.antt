@@ -1,8 +1,9 @@
 -- Which kind of step is due for an actor: a function of its fields, of what the streams of the phase still have, and of the cells.
--- An actor first goes on with the part that it is at, then empties its purse, then goes on with its command, and at last begins the
--- next one. Where it waits for others none is due, but where it waits for a block, or for a gate's inserts: of that see `can`.
+-- An actor first goes on with the part that it is at, then empties its purse, then goes on with its command; and without a command it
+-- uses cells again, if it is the administrator and can, and at last begins the next one. Where it waits for others none is due, but where it waits for a block, or for a gate's inserts: of that see `can`.
 use Rattle.std.specs.Prelude.{ℕ, ◌==◌, ◌&&◌, ◌||◌, Bool, true, not, Option, Some, None, is_none, if◌then◌else◌, List, [], ◌∷◌}
-use Rattle.core_due.specs.Due.{all_below, desk_of, does_nothing, errand_kind, hand_kind, is_empty, kind_at_empty, work_kind}
+use Rattle.core_due.specs.{Due.{all_below, desk_of, does_nothing, errand_kind, hand_kind, is_empty, kind_at_empty, work_kind}, Reuses.reuse_due}
+use Rattle.core_steps.specs.declared.reuses.ReuseStep.{ReuseStep}
 use Rattle.dim_hierarchy.specs.Dimension.{Dimension}
 use Rattle.query_router.specs.Desk.{DeskValue}
 use Rattle.script_form.specs.declared.script.Command.{Command}
@@ -41,9 +42,14 @@ free_kind s w alone rest r = next_kind s.hierarchy alone (desk_of s w r) rest
 abbrev pub is_alone : Setting → World → (ℕ → List Command) → ℕ → Bool
 is_alone s w rest n = all_below (actor_count s) (λ a. a == n || (does_nothing (w.actors a) && is_empty (rest a)))
 
+-- where a cell can be used again, that comes first
+abbrev pub kind_or : Option ReuseStep → Option Kind → Option Kind
+kind_or None next = next
+kind_or (Some step) next = Some kind.Reuse
+
 -- by the command that the actor has open, if it has one
 abbrev pub command_kind : Setting → World → Bool → List Command → ActorValue → Option OpenCommand → Option Kind
-command_kind s w alone rest a None = free_kind s w alone rest a.role
+command_kind s w alone rest a None = kind_or (reuse_due w a) (free_kind s w alone rest a.role)
 command_kind s w alone rest a (Some c) = work_kind s (ledger_in (w.cells ledger_cell)).history alone (desk_of s w a.role) a c.of c.work
 
 -- the cells of a job stay in the purse; all others that are left in it go back

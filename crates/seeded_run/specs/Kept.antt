@@ -3,7 +3,8 @@ use Rattle.std.specs.Prelude.{ℕ, ◌≡◌, ◌≢◌, ◌+◌, ◌<◌, ◌�
 use Rattle.row_ledger.specs.{Past.session_in, declared.event.Event.Event, declared.settings.Use.Use}
 use Rattle.script_form.specs.declared.script.Command.{Command}
 use Rattle.script_run.specs.{Between.{IsInOrder, IsThrough}, Parts.{IsPartAt, Waits, place_in}, Places.{are_over, begins_of, count_of, places, session_of}, Runs.Begins}
-use Rattle.volap_cell.specs.{Ghost.Ghost, Invariant.InvWith, Setting.{Setting, actor_count}, Sights.IsIdle, Steps.{Step, history_in}, View.view, World.World, declared.kind.Kind.Kind}
+use Rattle.shard_store.specs.declared.gate.Phase.TheVariants.{Gone}
+use Rattle.volap_cell.specs.{Cells.phase_of, Ghost.Ghost, Invariant.InvWith, Setting.{Setting, actor_count}, Sights.IsIdle, Steps.{Step, history_in}, View.view, World.World, declared.kind.Kind.Kind}
 use Rattle.seeded_run.specs.{Can.{able_in, can_step}, Due.due, Instead.{StandsFor, in_place_of}, Progress.{AreScriptRoles, IsOrderedRun, IsPhaseOf, IsScriptRun}, Rests.{PhaseRun, rest_of}, Running.{AreAtOwn, IsRunning, RunsBehind}, Steps.is_for_part, Told.is_of_part}
 
 -- Between phases.
@@ -12,10 +13,15 @@ use Rattle.seeded_run.specs.{Can.{able_in, can_step}, Due.due, Instead.{StandsFo
 abbrev pub AreIdle : World → Type 0
 AreIdle w = (a : ℕ) → IsIdle (w.actors a)
 
--- everybody is idle, and the commands so far are through, in order where that is asked for
+-- no gate is gone whose cells could be used again
+abbrev pub IsNoneGone : World → Type 0
+IsNoneGone w = (c : ℕ) → phase_of (w.cells c) ≢ Some Gone
+
+-- everybody is idle, no gate is gone, and the commands so far are through, in order where that is asked for
 pub record IsBetween (in_order : Bool) (s : Setting) (with : Use) (done : List Command) (w : World) : Type 0 where
   pub through : IsThrough with s.hierarchy done (history_in w)
   pub idle : AreIdle w
+  pub none_gone : IsNoneGone w
   pub ordered : in_order ≡ true → IsInOrder with s.hierarchy done (history_in w)
 
 -- since the phase began each session has begun so many commands as it has in it
@@ -32,10 +38,10 @@ abbrev pub PhaseBeginsLaw : Type 0
 PhaseBeginsLaw = (in_order : Bool) (s : Setting) (p : PhaseRun) (w : World) (next : ℕ → ℕ) → AreScriptRoles s → IsPhaseOf s p → AreIdle w
     → p.before ≡ history_in w → AreAtFirst p next → IsRunning in_order s p w next
 
--- and where nobody can make a step any more, everybody is idle again, and all its commands have begun.
+-- and where nobody can make a step any more, everybody is idle again, no gate is gone, and all its commands have begun.
 abbrev pub PhaseEndsLaw : Type 0
 PhaseEndsLaw = (in_order : Bool) (s : Setting) (p : PhaseRun) (w : World) (g : Ghost) (next : ℕ → ℕ) → InvWith s (view s w) g → IsRunning in_order s p w next
-    → able_in in_order s p w ≡ [] → AreIdle w × HasBegunAll p w
+    → able_in in_order s p w ≡ [] → AreIdle w × IsNoneGone w × HasBegunAll p w
 
 -- While it runs somebody can step, as it is a script's run, and where that is asked for an ordered one.
 abbrev pub RunsLaw : Type 0
@@ -67,7 +73,7 @@ BehindEndsLaw = (in_order : Bool) (s : Setting) (p : PhaseRun) (done : List Comm
 -- Steps.
 
 -- An actor that can step makes the step that is due, or what is made in its place where no memory is found. Where it is due that it goes
--- on with its part or its purse, it does so.
+-- on with its part or its purse, or uses a cell again, it does so.
 pub record IsTurn (in_order : Bool) (s : Setting) (p : PhaseRun) (w : World) (n : ℕ) (now : World) : Type 0 where
   pub within : n < actor_count s
   pub can : can_step in_order s p w n ≡ true

@@ -3,10 +3,10 @@ use Rattle.std.specs.Prelude.{ℕ, ◌≡◌, ◌≢◌, ◌<◌, ◌≤◌, ◌
 use Rattle.dc_node.specs.{Block.entries_in, declared.entry.Entry.Entry}
 use Rattle.row_ledger.specs.declared.event.Event.{Event}
 use Rattle.script_run.specs.Places.{begins_in, begins_of}
-use Rattle.volap_cell.specs.{Cells.block_in, Setting.{Setting, actor_count}, Sights.IsIdle, Values.{ActorValue, ErrandValue, OfRow}, World.{World, MustKeep}, declared.errand.RowErrand.RowErrand, declared.errand.Way.TheVariants.Carried, declared.kind.Kind.Kind, declared.kind.Kind.TheVariants.{PutInLeaf, Down}, declared.role.Role.TheVariants.Hand}
+use Rattle.volap_cell.specs.{Cells.block_in, Ghost.Ghost, Invariant.InvWith, Setting.{Setting, actor_count}, Sights.IsIdle, Values.{ActorValue, ErrandValue, OfRow}, View.view, World.{World, MustKeep}, declared.errand.RowErrand.RowErrand, declared.errand.Way.TheVariants.Carried, declared.kind.Kind.Kind, declared.kind.Kind.TheVariants.{PutInLeaf, Down}, declared.role.Role.TheVariants.Hand}
 use Rattle.script_form.specs.declared.script.Command.{Command}
-use Rattle.core_due.specs.{Due.led_to, Wants.{is_block_free, wanted}}
-use Rattle.seeded_run.specs.{Can.can_in_order, Due.due_by, Rests.{PhaseRun, rest_of, stream_of}}
+use Rattle.core_due.specs.{Due.led_to, Reuses.reuse_due, Wants.{is_block_free, wanted}}
+use Rattle.seeded_run.specs.{Can.can_in_order, Due.{due_by, kind_or}, Rests.{PhaseRun, rest_of, stream_of}}
 
 -- As a phase begins each session has its whole stream.
 abbrev pub WholeLaw : Type 0
@@ -17,10 +17,10 @@ abbrev pub RestLaw : Type 0
 RestLaw = (p : PhaseRun) (e : Event) (history : List Event) (session : ℕ) → length (begins_of p.before session) ≤ length (begins_of history session)
     → rest_of p (e ∷ history) session ≡ (if begins_in session e then drop 1 (rest_of p history session) else rest_of p history session)
 
--- Nothing is due for an idle actor that isn't a hand, and whose stream is at its end.
+-- Nothing is due for an idle actor that isn't a hand, and whose stream is at its end, but that it uses a cell again, where it can.
 abbrev pub IdleLaw : Type 0
 IdleLaw = (s : Setting) (w : World) (rest : ℕ → List Command) (n : ℕ) → IsIdle (w.actors n) → ((worker : ℕ) → (w.actors n).role ≢ Hand worker) → rest n ≡ []
-    → due_by s w rest n ≡ None
+    → due_by s w rest n ≡ kind_or (reuse_due w (w.actors n)) None
 
 -- its errand is a row's, which it carries at this block
 pub record CarriesAt (a : ActorValue) (e : ErrandValue) (r : RowErrand) (gate block : ℕ) : Type 0 where
@@ -50,4 +50,4 @@ FreeLaw = (s : Setting) (w : World) (n y : ℕ) → is_block_free s w n y ≡ tr
 
 -- Where commands go in order, no two actors can step.
 abbrev pub OrderLaw : Type 0
-OrderLaw = (s : Setting) (p : PhaseRun) (w : World) (a b : ℕ) → can_in_order s p w a ≡ true → can_in_order s p w b ≡ true → a ≡ b
+OrderLaw = (s : Setting) (p : PhaseRun) (w : World) (g : Ghost) → InvWith s (view s w) g → (a b : ℕ) → can_in_order s p w a ≡ true → can_in_order s p w b ≡ true → a ≡ b

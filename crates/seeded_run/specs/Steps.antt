@@ -1,10 +1,11 @@
--- What the steps that are due go on with: a part or a purse, or the next command.
+-- What the steps that are due go on with: a part or a purse, cells that are used again, or the next command.
 use Rattle.std.specs.Prelude.{ℕ, ◌&&◌, Bool, is_none, is_some, false, List, Option, Some, None, get_or}
 use Rattle.volap_cell.specs.{Values.{ErrandValue, actor_of}, declared.actor.Actor.Actor, declared.kind.Kind.Kind}
 use Rattle.volap_cell.specs.declared.kind.Kind.TheVariants as kind
 use Rattle.seeded_run.specs.{Commands.may_begin, Told.is_of_part}
 
--- whether a step of this kind goes on with the part that its actor has, or with its purse: who looks up without a part reads a load
+-- whether a step of this kind goes on with the part that its actor has, or with its purse, or uses a cell again: who looks up without a
+-- part reads a load
 abbrev pub is_for_part : Option ErrandValue → Kind → Bool
 is_for_part errand kind.LookUp = is_some errand
 is_for_part errand k = is_of_part k

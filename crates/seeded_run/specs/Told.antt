@@ -9,7 +9,7 @@ use Rattle.volap_cell.specs.declared.command.Work.TheVariants as work_is
 use Rattle.volap_cell.specs.declared.kind.Kind.TheVariants as kind
 use Rattle.seeded_run.specs.Running.{HasPulled, is_closing_work}
 
--- Kinds that go on with a part, or with a purse; and the look-up. None of them tells the history anything.
+-- Kinds that go on with a part, or with a purse; the look-up; and the one that uses cells again. None of them tells the history anything.
 abbrev pub is_of_part : Kind → Bool
 is_of_part kind.GateRead = true
 is_of_part kind.BlockVisit = true
@@ -24,6 +24,7 @@ is_of_part kind.LookUp = true
 is_of_part kind.Forward = true
 is_of_part kind.Expand = true
 is_of_part kind.FinishPart = true
+is_of_part kind.Reuse = true
 is_of_part _ = false
 
 -- a command that neither pulls nor closes its phase

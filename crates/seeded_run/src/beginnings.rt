@@ -9,7 +9,7 @@ ghost use Rattle.seeded_run.specs.Core.{HasCore, StepsOn};
 ghost use Rattle.volap_cell.specs.ImageKinds.{asks_registry};
 ghost use Rattle.volap_cell.specs.declared.kind.Kind.TheVariants.{Note};
 
-use core_steps::{BookStep, NoteStep, desk_place, image_place, make};
+use core_steps::{BeginStep, NoteStep, desk_place, image_place, make};
 use dim_hierarchy::{FilterFault, Hierarchy};
 use row_ledger::{Call, Class, Subject, Use};
 use script_form::{Command, NewRow, Question};
@@ -38,7 +38,7 @@ fn begin_insert(
     match h.coord(&new.names) {
         Ok(at) => {
             let measures = new.measures;
-            let step = BookStep::BeginInsert {
+            let step = BeginStep::Insert {
                 image,
                 at,
                 measures,
@@ -70,7 +70,7 @@ fn begin_query(
     let desk = desk_place(with, question.server);
     let image = image_place(question.server);
     let filter = h.filter(alloc, &question.filter)?;
-    let step = BookStep::BeginQuery {
+    let step = BeginStep::Query {
         desk,
         image,
         filter,

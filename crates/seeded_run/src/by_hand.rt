@@ -65,6 +65,7 @@ impl<'a> Running<'a> {
         match step {
             DueStep::Begins => self.kind_begun(actor as usize),
             DueStep::Takes { .. } => Kind::TakePart,
+            DueStep::Reuses(_) => Kind::Reuse,
             DueStep::AtPart(due) => kind_of_part(due),
             DueStep::AtWork(due) => kind_of_work(due),
         }

@@ -40,8 +40,6 @@ fn kind_of_tree(step: &TreeStep) -> Kind
         TreeStep::ReadGate { .. } => Kind::GateRead,
         TreeStep::VisitBlock { .. } => Kind::BlockVisit,
         TreeStep::Refill | TreeStep::GiveBack => Kind::Refill,
-        TreeStep::Down { .. } => Kind::Down,
-        TreeStep::EnterTree { .. } => Kind::EnterTree,
     }
 }
 
@@ -62,8 +60,6 @@ fn kind_of_book(step: &BookStep) -> Kind
     ensures { result ≡ book_kind step.now }
 {
     match step {
-        BookStep::BeginInsert { .. } => Kind::BeginInsert,
-        BookStep::BeginQuery { .. } => Kind::BeginQuery,
         BookStep::Route { .. } => Kind::Route,
         BookStep::Ack { .. } => Kind::Ack,
         BookStep::Answer { .. } => Kind::Answer,

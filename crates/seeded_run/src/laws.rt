@@ -21,7 +21,7 @@ pub fn cursors_tell_rests()
     ensures last { LastLaw }
 {}
 
-/// Who is idle and has nothing to begin makes no step.
+/// Who is idle and has nothing to begin makes no step, but that the administrator uses cells again.
 pub fn idle_actors_wait()
     ensures { IdleLaw }
 {}
@@ -34,7 +34,8 @@ pub fn parts_go_on()
     ensures free { FreeLaw }
 {}
 
-/// Where the commands go one after the other, one actor at most can make a step.
+/// Where the commands go one after the other, one actor at most can make a step: that of the first one that isn't
+/// over, and then the administrator.
 pub fn one_steps_in_order()
     ensures { OrderLaw }
 {}
@@ -85,8 +86,9 @@ pub fn steps_tell_so()
     ensures others { OthersLaw }
 {}
 
-/// A phase begins where everybody is idle, and where nobody can make a step any more everybody is idle again, and
-/// each session has begun all its commands. Between its steps it runs as the laws of progress ask.
+/// A phase begins where everybody is idle, and where nobody can make a step any more everybody is idle again, no gate
+/// is gone whose cells could be used again, and each session has begun all its commands. Between its steps it runs as
+/// the laws of progress ask.
 pub fn phases_begin_and_end()
     ensures begins { PhaseBeginsLaw }
     ensures ends { PhaseEndsLaw }

@@ -1,7 +1,7 @@
 //! The turns of a phase: what an actor does whose turn it is.
 ghost use Rattle.std.specs.Prelude.{◌≡◌, ◌<◌, ◌+◌, length, slice_get, option_copied, OnOk, OnErr, Some, None};
 ghost use Rattle.std.specs.Prelude.{false, true, IfSome, get_or, if◌then◌else◌, option_map};
-ghost use Rattle.seeded_run.specs.declared.turn.DueStep.TheVariants.{AtPart, AtWork, Takes};
+ghost use Rattle.seeded_run.specs.declared.turn.DueStep.TheVariants.{AtPart, AtWork, Reuses, Takes};
 ghost use Rattle.script_run.specs.Places.{session_of};
 ghost use Rattle.seeded_run.specs.Machine.{AloneInOrder, BeginsNow, HasBegunTo, HasMovedOn, HasTurned, HoldsNow, IsDueStep, IsPhaseHeld, IsPhaseKept, KnowsOtherHands, LeavesAtMost, RestsAsIs, TakesTurn, TellsSurvey, WaitsAt, about_in, can_in, next_at, phase_of, step_in, streams_open, world_of};
 ghost use Rattle.seeded_run.specs.DueSteps.{KnowsBytes, step_if_free};
@@ -13,7 +13,8 @@ use crate::parts::{go_on_at_part, take_part};
 use crate::survey::Survey;
 use crate::turn::{DueStep, due, is_its_turn};
 use crate::works::go_on_with_work;
-use core_due::{PartDue, WorkDue};
+use core_due::{PartDue, WorkDue, reuse_due};
+use core_steps::{ReuseStep, make};
 use dim_hierarchy::Hierarchy;
 use row_ledger::Use;
 use script_form::Command;
@@ -76,6 +77,16 @@ impl<'a> Running<'a> {
         take_part(alloc, self.h, &self.with, &mut self.state, number, worker);
     }
 
+    /// An actor uses a cell again, where that is due.
+    fn reuse(&mut self, alloc: Global, number: usize, step: ReuseStep)
+        requires held { IsPhaseHeld self.old }
+        requires within { number < length self.old.state.actors.items }
+        requires due { IsDueStep self.old number (Reuses step) }
+        ensures turned { HasTurned self.old number self.new }
+    {
+        let _ = make(alloc, self.h, &mut self.state, number, step);
+    }
+
     /// An actor goes on with its part or its purse, where that is due.
     fn go_on_at_part(&mut self, alloc: Global, number: usize, due: PartDue)
         requires held { IsPhaseHeld self.old }
@@ -130,6 +141,10 @@ impl<'a> Running<'a> {
             }
             DueStep::Takes { worker } => {
                 self.take_part(alloc, number, worker);
+                Ok(())
+            }
+            DueStep::Reuses(step) => {
+                self.reuse(alloc, number, step);
                 Ok(())
             }
             DueStep::AtPart(due) => {
@@ -219,8 +234,28 @@ impl<'a> Running<'a> {
         )
     }
 
+    /// What an actor does where the commands go in order and all are over: it uses a cell again, if it is the
+    /// administrator and can.
+    fn step_when_over(&self, number: usize) -> Option<DueStep>
+        requires held { IsPhaseHeld self.now }
+        requires within { number < length self.now.next.items }
+        requires in_order { self.now.in_order ≡ true }
+        requires over { self.now.first ≡ None }
+        ensures step { step_in self.now number ≡ result }
+        ensures bytes { IfSome result (KnowsBytes self.now.with.servers ((world_of self.now).actors number)) }
+    {
+        let Some(actor) = &self.state.actors[number] else {
+            return None;
+        };
+        match reuse_due(&self.state.cells, actor) {
+            Some(step) => Some(DueStep::Reuses(step)),
+            None => None,
+        }
+    }
+
     /// What an actor does that can make a step: that waits for nothing, and where the commands go in order it is
-    /// the actor of the first command that isn't over; everyone else is idle then, and carries nothing.
+    /// the actor of the first command that isn't over; everyone else is idle then, and carries nothing. Where all
+    /// are over, cells are used again, and nothing else is done.
     fn step_in_turn(&self, number: usize) -> Option<DueStep>
         requires held { IsPhaseHeld self.now }
         requires within { number < length self.now.next.items }
@@ -228,9 +263,11 @@ impl<'a> Running<'a> {
         ensures bytes { IfSome result (KnowsBytes self.now.with.servers ((world_of self.now).actors number)) }
     {
         if is_its_turn(self.in_order, self.first, number) {
-            self.step_on_turn(None, number)
-        } else {
-            None
+            return self.step_on_turn(None, number);
+        }
+        match self.first {
+            Some(_) => None,
+            None => self.step_when_over(number),
         }
     }
 

@@ -5,7 +5,7 @@ ghost use Rattle.core_due.specs.Parts.{due_kind, due_may_fail, ending};
 ghost use Rattle.core_due.specs.Ready.{CanDescend};
 ghost use Rattle.core_due.specs.Rows.{descent_of, entrance_of};
 ghost use Rattle.core_steps.specs.Steps.{IsFurther, IsSame, IsSound};
-ghost use Rattle.core_steps.specs.declared.trees.TreeStep.{TreeStep};
+ghost use Rattle.core_steps.specs.declared.rows.RowStep.{RowStep};
 ghost use Rattle.seeded_run.specs.Arms.{GoesOnAtPart};
 ghost use Rattle.seeded_run.specs.Drives.{HasActor, MayEnd, MayEndInstead, MayGoOn, MayTake};
 ghost use Rattle.volap_cell.specs.ShardKinds.{pin_of};
@@ -13,7 +13,7 @@ ghost use Rattle.volap_cell.specs.Values.{ErrandValue, actor_of, errand_of};
 ghost use Rattle.volap_cell.specs.declared.kind.Kind.TheVariants.{FinishPart, TakePart};
 
 use core_due::{PartDue, awaiting, descend, desk_at, ending, enter};
-use core_steps::{PartStep, TreeStep, lent, make};
+use core_steps::{PartStep, RowStep, lent, make};
 use dim_hierarchy::Hierarchy;
 use row_ledger::Use;
 use std::alloc::{AllocError, Global};
@@ -53,8 +53,8 @@ fn end_part(alloc: Global, h: &Hierarchy, with: &Use, state: &mut State, number:
 }
 
 /// The step of an actor's row in at its gate.
-fn entrance(state: &mut State, number: usize, map: u32, gate: u32) -> TreeStep
-    requires found { HasActor state.old number (λ a. (step : TreeStep) × (entrance_of (world_by state.old.cells.items) a.purse map gate ≡ Some step)) }
+fn entrance(state: &mut State, number: usize, map: u32, gate: u32) -> RowStep
+    requires found { HasActor state.old number (λ a. (step : RowStep) × (entrance_of (world_by state.old.cells.items) a.purse map gate ≡ Some step)) }
     ensures step { HasActor state.old number (λ a. entrance_of (world_by state.old.cells.items) a.purse map gate ≡ Some result) }
     ensures cells { state.new.cells.items ≡ state.old.cells.items }
     ensures actors { state.new.actors.items ≡ state.old.actors.items }
@@ -64,8 +64,8 @@ fn entrance(state: &mut State, number: usize, map: u32, gate: u32) -> TreeStep
 }
 
 /// The step of an actor's row down from its block.
-fn descent(h: &Hierarchy, state: &State, number: usize, block: u32) -> TreeStep
-    requires found { HasActor state.now number (λ a. CanDescend h.now state.now.cells.items a block × ((step : TreeStep) × (descent_of h.now (world_by state.now.cells.items) a block ≡ Some step))) }
+fn descent(h: &Hierarchy, state: &State, number: usize, block: u32) -> RowStep
+    requires found { HasActor state.now number (λ a. CanDescend h.now state.now.cells.items a block × ((step : RowStep) × (descent_of h.now (world_by state.now.cells.items) a block ≡ Some step))) }
     ensures { HasActor state.now number (λ a. descent_of h.now (world_by state.now.cells.items) a block ≡ Some result) }
 {
     match &state.actors[number] {

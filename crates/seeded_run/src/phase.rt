@@ -153,9 +153,10 @@ fn run_from(
 
 /// Runs commands as one phase over a core whose actors, those of a script's run, are all idle: turn by turn, each
 /// step made by the actor whose turn it is of those that can make the step that is due for them, until nobody can.
-/// Under `Schedule::Order` the commands go one after the other, and hands make no step; by a seed each turn is
-/// drawn. Then every command of the phase has begun and ended, and all actors are idle. What the core did before
-/// doesn't matter; where its history was a run of some commands, it goes on as one of these and those of the phase.
+/// Under `Schedule::Order` the commands go one after the other, then the administrator uses cells again, and hands
+/// make no step; by a seed each turn is drawn. Then every command of the phase has begun and ended, and all actors are
+/// idle. What the core did before doesn't matter; where its history was a run of some commands, it goes on as one of
+/// these and those of the phase.
 ///
 /// Where a command finds no memory it ends with that, and the phase goes on. Only where none is found for noting
 /// that either, for noting that a barrier begins, or for the cursors of the phase, this answers `AllocError`, with the
@@ -190,7 +191,8 @@ pub fn run_commands(
 }
 
 /// Runs the next phase of a script's commands, behind those that are done, as `run_commands` does. Then the history
-/// is a run of all of them; or where it stopped, a part of one.
+/// is a run of all of them, and no gate is gone whose cells could be used again; or where it stopped, the history is a
+/// part of one.
 pub fn run_phase(
     alloc: Global,
     h: &Hierarchy,

@@ -11,7 +11,7 @@ ghost use Rattle.dim_hierarchy.specs.Dimension.{Dimension};
 ghost use Rattle.script_form.specs.declared.script.Command as script;
 ghost use Rattle.seeded_run.specs.Core.{HasCore, IsCore};
 ghost use Rattle.seeded_run.specs.Due.{actor_kind, due_by};
-ghost use Rattle.seeded_run.specs.DueSteps.{KnowsBytes, actor_step, free_step, purse_step, step_due_by, step_where};
+ghost use Rattle.seeded_run.specs.DueSteps.{KnowsBytes, actor_step, command_step, free_step, purse_step, step_due_by, step_where};
 ghost use Rattle.seeded_run.specs.Look.{IsTold, ahead, alone_by};
 ghost use Rattle.seeded_run.specs.Survey.{IsSurvey};
 ghost use Rattle.seeded_run.specs.Takes.{AsksHere, CanPick, HasDeskFor, free_by, is_free_by, may_next};
@@ -24,9 +24,10 @@ use crate::alone::is_alone;
 use crate::survey::Survey;
 use crate::wanted::{is_drained, is_wanted_free};
 use core_due::{
-    PartDue, WorkDue, awaiting, is_spent, part_due, tell_bytes, waits_for_others, work_due,
+    PartDue, WorkDue, awaiting, is_spent, part_due, reuse_due, tell_bytes, waits_for_others,
+    work_due,
 };
-use core_steps::TreeStep;
+use core_steps::{ReuseStep, TreeStep};
 use dim_hierarchy::Hierarchy;
 use row_ledger::Use;
 use script_form::Command;
@@ -42,6 +43,8 @@ pub enum DueStep {
     Begins,
     /// A hand of this worker takes a part that waits for it, from the first desk that has one.
     Takes { worker: u8 },
+    /// It uses a cell again, before its next command begins.
+    Reuses(ReuseStep),
     /// It goes on with its part or its purse.
     AtPart(PartDue),
     /// It goes on with its command.
@@ -92,6 +95,25 @@ fn free_due(
     }
 }
 
+/// What an actor does that has no command: a cell that can be used again goes before the next command.
+fn idle_due(
+    with: &Use,
+    state: &State,
+    actor: &Actor,
+    number: usize,
+    next: Option<&Command>,
+    left: usize,
+) -> Option<DueStep>
+    requires desk { HasDeskFor (desk_of (setting_by [] with.now) (world_by state.now.cells.items) actor.now.role) (option_copied next) }
+    ensures { (h : List Dimension) → command_step (setting_by h with.now) (world_by state.now.cells.items)
+        (alone_by state.now.actors.items number (option_copied next.entry) left) (ahead (option_copied next.entry)) (actor_of actor.now) None ≡ result }
+{
+    match reuse_due(&state.cells, actor) {
+        Some(step) => Some(DueStep::Reuses(step)),
+        None => free_due(with, state, actor.role, number, next, left),
+    }
+}
+
 /// How an actor goes on with its open command.
 fn command_due(
     with: &Use,
@@ -133,7 +155,7 @@ fn purse_due(
     }
     match &actor.command {
         Some(open) => command_due(with, state, actor, open, number, next, left),
-        None => free_due(with, state, actor.role, number, next, left),
+        None => idle_due(with, state, actor, number, next, left),
     }
 }
 

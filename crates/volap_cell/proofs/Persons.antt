@@ -1,6 +1,6 @@
 -- Who is who stays: a step of an actor that is there leaves its number, its role and what it is about.
-use Rattle.std.proofs.Common.{◌≡◌, ◌≢◌, ℕ, ◌<◌, ◌≤◌, true, false, Some, None, sym, ◌∙◌, arith}
-use Rattle.volap_cell.specs.{Errands.Taken, Numbering.Numbering, Setting.{Setting, actor_count}, Values.JobValue, View.View, declared.command.Command.Command, declared.role.Role.TheVariants.Hand}
+use Rattle.std.proofs.Common.{◌≡◌, ◌≢◌, ℕ, ◌<◌, ◌≤◌, true, false, Some, None, sym, ap, ◌∙◌, arith}
+use Rattle.volap_cell.specs.{Errands.Taken, Numbering.Numbering, Setting.{Setting, actor_count}, Values.JobValue, View.View, declared.command.Command.Command, declared.role.Role.TheVariants.{Admin, Hand}}
 
 -- who is who in a view
 abbrev pub IsNumbered : Setting → View → Type 0
@@ -26,3 +26,11 @@ is-counted s v numbered a is = there-unless s a (λ le. let (none, purse, comman
 
 pub has-role : (s : Setting) (v : View) → IsNumbered s v → (a : ℕ) → v.roles a ≢ Hand s.workers → a < actor_count s
 has-role s v numbered a other = there-unless s a (λ le. other (numbered.beyond a le))
+
+-- there is one administrator at most
+pub only-admin : (s : Setting) (v : View) → IsNumbered s v → (n a : ℕ) → v.roles n ≡ Admin → v.roles a ≡ Admin → a ≡ n
+only-admin s v numbered n a admin other =
+    let not-hand : (k : ℕ) → v.roles k ≡ Admin → v.roles k ≢ Hand s.workers = λ k is e. let no : Admin ≡ Hand s.workers = sym is ∙ e in cc in
+    numbered.setting.admin a n
+    (numbered.role a (has-role s v numbered a (not-hand a other)) ∙ ap Some other)
+    (numbered.role n (has-role s v numbered n (not-hand n admin)) ∙ ap Some admin)

@@ -17,7 +17,7 @@ use Rattle.shard_plan.specs.Building.{cells_for, split_need}
 use Rattle.shard_store.specs.{Gate.IsQueueOf, declared.gate.Gate.Gate}
 use Rattle.shard_store.specs.declared.gate.Phase.TheVariants as phase
 use Rattle.tree_shape.specs.Collecting.{root_item, entry_items}
-use Rattle.volap_cell.specs.{Cells.{FreeCell, LedgerCell, StockCell, RegistryCell, MapCell, GateCell, BlockCell}, Commands.after_action, ImageKinds.{Pushes, doing}, Planning.next_job, TreeKinds.{Leads, IsRead, TurnsGate}, Values.{ActorValue, JobValue, StageValue, IsCalled, IsDeclined, IsFrozen, Collects, Builds, CollectingValue, BuildingValue}, World.Change, declared.command.Work.Work, declared.job.BuiltTree.BuiltTree, declared.job.Frozen.Frozen}
+use Rattle.volap_cell.specs.{Cells.{FreeCell, LedgerCell, StockCell, RegistryCell, MapCell, GateCell, BlockCell}, Commands.after_action, ImageKinds.{Pushes, doing}, Planning.next_job, Reusing.without_gate, TreeKinds.{Leads, IsRead, TurnsGate}, Values.{ActorValue, JobValue, StageValue, IsCalled, IsDeclined, IsFrozen, Collects, Builds, CollectingValue, BuildingValue}, World.Change, declared.command.Work.Work, declared.job.BuiltTree.BuiltTree, declared.job.Frozen.Frozen, declared.role.Role.TheVariants.Admin}
 use Rattle.volap_cell.specs.declared.command.Work.TheVariants as work_is
 
 -- The actor.
@@ -241,17 +241,20 @@ pub record PushesBoth (first second : Event) (l : Change) (seen : ℕ) : Type 0 
   pub promised : ledger.promised ≡ ledger_now.promised + 2
   pub all_seen : seen ≡ length ledger_now.history
 
--- a balance goes on with its next action; a command of one action ends fine in the same commit
-abbrev pub Finishes : ℕ → Work → JobValue → Event → Change → ActorValue → ActorValue → Type 0
-Finishes of (work_is.Balance balance) job e l a b =
+-- A balance goes on with its next action; a command of one action ends fine in the same commit. The old gate, in this cell, is the
+-- last one that went.
+abbrev pub Finishes : ℕ → ℕ → Work → JobValue → Event → Change → ActorValue → ActorValue → Type 0
+Finishes gate of (work_is.Balance balance) job e l a b =
     Pushes e 0 1 l b.seen
     × (b ≡ record a {
       purse = [];
       seen = b.seen;
       command = doing of (work_is.Balance (after_action true job balance));
       job = next_job (after_action true job balance);
+      gone_gates = a.gone_gates ++ gate ∷ [];
     })
-Finishes of work job e l a b = PushesBoth e (event.Ended of how.Fine) l b.seen × (b ≡ record a { purse = []; seen = b.seen; command = None; job = None })
+Finishes gate of work job e l a b =
+    PushesBoth e (event.Ended of how.Fine) l b.seen × (b ≡ record a { purse = []; seen = b.seen; command = None; job = None; gone_gates = a.gone_gates ++ gate ∷ [] })
 
 -- The last two spares of the purse become the cells of the children's gates, the left one's first.
 pub record DoesFinishSplit (h : List Dimension) (m x l r reg c led : Change) (a b : ActorValue) : Type 0 where
@@ -307,7 +310,7 @@ pub record DoesFinishSplit (h : List Dimension) (m x l r reg c led : Change) (a 
   pub gives : Gives stock given purse purse_now
   pub ids : stock_now ≡ record given { ids = stock.ids + 2 }
   pub turns_stock : TurnsStock stock stock_now c
-  pub finishes : Finishes of work job (event.Split of job.shard stock.ids (stock.ids + 1)) led a b
+  pub finishes : Finishes x.number of work job (event.Split of job.shard stock.ids (stock.ids + 1)) led a b
 
 -- the tables after a move: on the worker that had the shard it has moved, on the other one it has its new gate; where both are
 -- one worker, its one table is held
@@ -357,7 +360,7 @@ pub record DoesFinishMove (h : List Dimension) (maps : List Change) (x g reg c l
   pub purse_was : purse.spares ≡ rest
   pub gives : Gives stock stock_now purse purse_now
   pub turns_stock : TurnsStock stock stock_now c
-  pub finishes : Finishes of work job (event.Moved of job.shard to) led a b
+  pub finishes : Finishes x.number of work job (event.Moved of job.shard to) led a b
 
 -- Giving up.
 
@@ -409,19 +412,36 @@ pub record DoesPostpone (c led : Change) (a b : ActorValue) : Type 0 where
 
 -- Using cells again.
 
--- the cell is free again
+-- the cell is free again, behind the stock's other free ones
 pub record Frees (cell : ℕ) (c : Change) : Type 0 where
   pub stock : StockValue
   pub was : c.before ≡ StockCell stock
   pub is : c.now ≡ StockCell (record stock { free = stock.free ++ cell ∷ [] })
 
--- a gate that is gone, and to which no query is pinned, gives back the last cell of its list, and at last its own
-pub record DoesReuse (g c : Change) (a b : ActorValue) : Type 0 where
+-- the administrator, between two commands, may use a gate's cells again: it is gone, and no query is pinned to it
+pub record MayReuse (gate : Gate) (a : ActorValue) : Type 0 where
+  pub role : a.role ≡ Admin
   pub no_command : a.command ≡ None
-  pub gate : Gate
   pub is_gone : gate.phase ≡ phase.Gone
   pub unpinned : gate.pins ≡ 0
-  pub frees :
-      ((cells : List ℕ) × (cell : ℕ) × (gate.gone ≡ cells ++ cell ∷ []) × TurnsGate gate (record gate { gone = cells }) g × Frees cell c)
-      ⊎ ((gate.gone ≡ []) × (g.before ≡ GateCell gate) × (g.now ≡ FreeCell) × Frees g.number c)
+
+-- the block that stands last in the gate's list goes
+pub record ReusesBlock (g y c : Change) (a b : ActorValue) : Type 0 where
+  pub gate : Gate
+  pub may : MayReuse gate a
+  pub cells : List ℕ
+  pub last : gate.gone ≡ cells ++ y.number ∷ []
+  pub turns : TurnsGate gate (record gate { gone = cells }) g
+  pub freed : y.now ≡ FreeCell
+  pub frees : Frees y.number c
   pub actor_is : b ≡ a
+
+-- where none is left, the gate goes itself, and the administrator has it in its list no more
+pub record ReusesGate (g c : Change) (a b : ActorValue) : Type 0 where
+  pub gate : Gate
+  pub may : MayReuse gate a
+  pub empty : gate.gone ≡ []
+  pub was : g.before ≡ GateCell gate
+  pub freed : g.now ≡ FreeCell
+  pub frees : Frees g.number c
+  pub actor_is : b ≡ record a { gone_gates = without_gate g.number a.gone_gates }

@@ -95,7 +95,7 @@ cell_or (Some c) = cell_of c
 
 -- an actor that isn't there; its role is that of a worker that isn't
 abbrev pub fresh : Setting → ℕ → ActorValue
-fresh s a = record { number = a; role = Hand s.workers; setting = s; seen = 0; counted = false; purse = []; boxes = 0; command = None; errand = None; job = None }
+fresh s a = record { number = a; role = Hand s.workers; setting = s; seen = 0; counted = false; purse = []; boxes = 0; command = None; errand = None; job = None; gone_gates = [] }
 
 abbrev pub actor_or : Setting → ℕ → Option Actor → ActorValue
 actor_or s a None = fresh s a

@@ -1,6 +1,6 @@
 -- What holds between steps. Its parts read fields of the view and of the ghost, and never the whole of either, so that a step keeps
 -- by its very statement each part whose fields it leaves as they are.
-use Rattle.volap_cell.specs.{Desking.Desking, Ghost.Ghost, Growing.{Growing, Queueing, Resting}, Imaging.{Covering, Imaging}, Lineage.{Leading, Lineage}, Numbering.Numbering, Owing.Owing, Placing.{Inserting, Placing}, Querying.{Pinning, Querying}, Setting.Setting, Stocking.{Stamping, Stocking}, Telling.Telling, Turning.Turning, View.View, Working.{Balancing, Working}}
+use Rattle.volap_cell.specs.{Desking.Desking, Ghost.Ghost, Growing.{Growing, Queueing, Resting}, Imaging.{Covering, Imaging}, Lineage.{Leading, Lineage}, Numbering.Numbering, Owing.Owing, Placing.{Inserting, Placing}, Querying.{Pinning, Querying}, Reusing.Reusing, Setting.Setting, Stocking.{Stamping, Stocking}, Telling.Telling, Turning.Turning, View.View, Working.{Balancing, Working}}
 
 pub record InvWith (s : Setting) (v : View) (g : Ghost) : Type 0 where
   pub numbering : Numbering s v.tags v.numbers v.roles v.settings v.counted_in v.purses v.commands v.taken v.jobs
@@ -23,3 +23,4 @@ pub record InvWith (s : Setting) (v : View) (g : Ghost) : Type 0 where
   pub querying : Querying s v.history v.row v.blocks v.trees v.desks v.taken v.reads g.shape g.placed g.home g.counted
   pub working : Working s v.history v.blocks v.made v.trees v.phases v.active v.queues v.purses v.commands v.jobs g.gate g.shape g.placed
   pub balancing : Balancing s v.history v.commands v.jobs g.placed g.home
+  pub reusing : Reusing v.roles v.phases v.gone_gates

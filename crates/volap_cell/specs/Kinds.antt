@@ -2,7 +2,7 @@
 -- code of a kind is proved to do, and what a step of the core is.
 use Rattle.std.specs.Prelude.{List, [], ◌∷◌}
 use Rattle.dim_hierarchy.specs.Dimension.{Dimension}
-use Rattle.volap_cell.specs.{AdminKinds.{DoesFreeze, DoesDrained, DoesCollect, DoesBuildBlock, DoesFinishSplit, DoesFinishMove, DoesPostpone, DoesReuse}, ImageKinds.{DoesBeginInsert, DoesNote, DoesNoteWith, FailsRouted, DoesRoute, DoesAck, DoesBeginQuery, DoesAnswer, DoesSync}, ShardKinds.{DoesTakePart, DoesLookUp, DoesForward, DoesExpand, DoesFinishPart}, TreeKinds.{DoesGateRead, DoesBlockVisit, DoesEnterTree, DoesEnterQueue, DoesDown, DoesPutInLeaf, DoesLeaveTree, DoesRefill}, Values.ActorValue, World.Change, declared.kind.Kind.Kind}
+use Rattle.volap_cell.specs.{AdminKinds.{DoesFreeze, DoesDrained, DoesCollect, DoesBuildBlock, DoesFinishSplit, DoesFinishMove, DoesPostpone, ReusesBlock, ReusesGate}, ImageKinds.{DoesBeginInsert, DoesNote, DoesNoteWith, FailsRouted, DoesRoute, DoesAck, DoesBeginQuery, DoesAnswer, DoesSync}, ShardKinds.{DoesTakePart, DoesLookUp, DoesForward, DoesExpand, DoesFinishPart}, TreeKinds.{DoesGateRead, DoesBlockVisit, DoesEnterTree, DoesEnterQueue, DoesDown, DoesPutInLeaf, DoesLeaveTree, DoesRefill}, Values.ActorValue, World.Change, declared.kind.Kind.Kind}
 use Rattle.volap_cell.specs.declared.kind.Kind.TheVariants as kind
 
 abbrev pub Does : List Dimension → Kind → List Change → ActorValue → ActorValue → Type 0
@@ -37,5 +37,6 @@ Does h kind.FinishSplit (m ∷ x ∷ l ∷ r ∷ reg ∷ c ∷ led ∷ []) a b =
 Does h kind.FinishMove (m ∷ x ∷ g ∷ reg ∷ c ∷ led ∷ []) a b = DoesFinishMove h (m ∷ []) x g reg c led a b
 Does h kind.FinishMove (m ∷ n ∷ x ∷ g ∷ reg ∷ c ∷ led ∷ []) a b = DoesFinishMove h (m ∷ n ∷ []) x g reg c led a b
 Does h kind.Postpone (c ∷ led ∷ []) a b = DoesPostpone c led a b
-Does h kind.Reuse (g ∷ c ∷ []) a b = DoesReuse g c a b
+Does h kind.Reuse (g ∷ y ∷ c ∷ []) a b = ReusesBlock g y c a b
+Does h kind.Reuse (g ∷ c ∷ []) a b = ReusesGate g c a b
 Does h _ _ a b = ⊥

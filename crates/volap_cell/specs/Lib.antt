@@ -5,6 +5,7 @@ pub mod JobSteps
 pub mod Errands
 pub mod World
 pub mod View
+pub mod Reusing
 pub mod Planning
 pub mod Commands
 pub mod NewBlocks

@@ -36,6 +36,7 @@ pub record IsFresh (s : Setting) (a : ℕ) (x : ActorValue) : Type 0 where
   pub command : x.command ≡ None
   pub errand : x.errand ≡ None
   pub job : x.job ≡ None
+  pub gone_gates : x.gone_gates ≡ []
 
 pub record IsOpening (s : Setting) (w : World) : Type 0 where
   pub ledger : LedgerValue

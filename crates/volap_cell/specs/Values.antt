@@ -99,6 +99,7 @@ pub record ActorValue : Type 0 where
   pub command : Option Command
   pub errand : Option ErrandValue
   pub job : Option JobValue
+  pub gone_gates : List ℕ
 
 abbrev pub setting_of : About → Setting
 setting_of a = record { hierarchy = a.hierarchy.value; servers = a.with.value.servers; workers = a.with.value.workers; stock_cells = a.with.value.cells; roles = a.roles.value }
@@ -115,4 +116,5 @@ actor_of a = record {
   command = a.command;
   errand = option_map errand_of a.errand;
   job = option_map (λ j. job_of j.value) a.job;
+  gone_gates = a.gone_gates.cells;
 }

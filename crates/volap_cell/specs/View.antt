@@ -56,6 +56,7 @@ pub record View : Type 0 where
   pub ways : ℕ → Option RowWay
   pub reads : ℕ → Option ReadPart
   pub jobs : ℕ → Option JobValue
+  pub gone_gates : ℕ → List ℕ
 
 abbrev pub view : Setting → World → View
 view s w = record {
@@ -89,4 +90,5 @@ view s w = record {
   ways = λ a. way_of (w.actors a).errand;
   reads = λ a. read_of (w.actors a).errand;
   jobs = λ a. (w.actors a).job;
+  gone_gates = λ a. (w.actors a).gone_gates;
 }

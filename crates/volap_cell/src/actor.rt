@@ -2,6 +2,7 @@
 use crate::boxes::Boxes;
 use crate::command::Command;
 use crate::errand::Errand;
+use crate::gone_gates::GoneGates;
 use crate::job::Job;
 use crate::role::{Role, RoleList};
 use cell_stock::Purse;
@@ -35,4 +36,6 @@ pub struct Actor {
     pub command: Option<Command>,
     pub errand: Option<Errand>,
     pub job: Option<Box<Job>>,
+    /// The administrator's: the gates that are gone, as long as their own cells are not free again.
+    pub gone_gates: GoneGates,
 }

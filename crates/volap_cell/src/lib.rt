@@ -7,6 +7,7 @@ mod cell;
 mod command;
 mod errand;
 mod fills;
+mod gone_gates;
 mod job;
 mod kind;
 mod laws;
@@ -21,6 +22,7 @@ pub use boxes::Boxes;
 pub use cell::Cell;
 pub use command::{Balance, Command, Work};
 pub use errand::{Errand, Reading, RowErrand, Task, Way, go_on};
+pub use gone_gates::GoneGates;
 pub use job::{Building, BuiltTree, Collecting, Frozen, Job, Stage, Unbuilt};
 pub use kind::Kind;
 pub use laws::{

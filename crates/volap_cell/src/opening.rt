@@ -6,6 +6,7 @@ ghost use Rattle.volap_cell.specs.Numbering.{IsSetting};
 use crate::actor::{About, Actor};
 use crate::boxes::Boxes;
 use crate::cell::Cell;
+use crate::gone_gates::GoneGates;
 use crate::role::RoleList;
 use crate::state::{State, put_three};
 use cell_stock::{Purse, Stock};
@@ -204,6 +205,7 @@ fn actor(alloc: Global, h: &Hierarchy, with: &Use, roles: &RoleList, number: u16
         command: None,
         errand: None,
         job: None,
+        gone_gates: GoneGates::new(alloc),
     }
 }
 

@@ -278,6 +278,7 @@ module _ (gates : GateLaw) (s : Setting) (w : World) (n : ℕ) (g : Ghost) (i : 
     querying = i.querying;
     working = working-now;
     balancing = balancing-now;
+    reusing = i.reusing;
   }
 
   -- What is left.

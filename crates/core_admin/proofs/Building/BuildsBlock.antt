@@ -105,11 +105,11 @@ module _ (c : Change) (b : ActorValue) (s : Setting) (w : World) (n : ℕ) (g : 
       (λ q. ap v2.made (eqb-true y c.number q) ∙ ap has_block filled)
       (λ q. made-off y (eqb-false y c.number q) ∙ is)
 
-  off : (y x : ℕ) → g.owner y ≡ InTree x → v2.blocks y ≡ v.blocks y
-  off y x is = block-off y (λ e. let no : InTree x ≡ InJob n = sym is ∙ ap g.owner e ∙ owner in cc)
+  off : (y x : ℕ) → IsWhole v.gates v.phases v.pins x → g.owner y ≡ InTree x → v2.blocks y ≡ v.blocks y
+  off y x whole is = block-off y (λ e. let no : InTree x ≡ InJob n = sym is ∙ ap g.owner e ∙ owner in cc)
 
-  trees-off : (x : ℕ) → IsSome (v.gates x) → v2.trees x ≡ v.trees x
-  trees-off x is = refl
+  trees-off : (x : ℕ) → IsWhole v.gates v.phases v.pins x → v2.trees x ≡ v.trees x
+  trees-off x whole = refl
 
   spent-same : (a : ℕ) → spent_of (v2.jobs a) ≡ spent_of (v.jobs a)
   spent-same a = on_bool (eqb a n)
@@ -287,6 +287,7 @@ module _ (c : Change) (b : ActorValue) (s : Setting) (w : World) (n : ℕ) (g : 
         (λ a x p is pin. pinned-whole s v.tags v.numbers v.roles v.settings v.counted_in v.purses v.commands v.taken v.jobs v.gates v.phases v.pins v.reads i.numbering (readers-take s w) i.pinning a x p is pin);
     working = working-now;
     balancing = balancing-on s v g i n d.job (Builds now) v2.jobs new;
+    reusing = i.reusing;
   }
 
   control-less : (left s w2 g).control < (left s w g).control

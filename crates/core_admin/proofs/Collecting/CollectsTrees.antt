@@ -184,6 +184,7 @@ module _ (s : Setting) (w : World) (n : ℕ) (g : Ghost) (i : InvWith s (view s 
     querying = i.querying;
     working = staged-working s v i.numbering n d.job (Builds d.building) u.jobs new v.history v.blocks v.made v.trees v.phases v.phases v.active v.queues v.purses u.purses g.gate g.shape g.placed i.working at-work;
     balancing = staged-balancing s v i.numbering n d.job (Builds d.building) u.jobs new v.history g.placed g.home i.balancing;
+    reusing = i.reusing;
   }
 
   -- What is left.

@@ -1,5 +1,5 @@
 -- A shard is frozen: its gate's phase is new, and the cells that the job needs go from the stock to the purse.
-use Rattle.std.proofs.{Common.{◌≡◌, ◌≢◌, ℕ, ◌+◌, ◌*◌, ◌^◌, ◌<◌, ◌≤◌, false, eqb, List, [], ◌∷◌, ◌++◌, length, Option, Some, None, IsSome, All, refl, sym, ap, ◌∙◌, subst, ◌⊎◌, inl, inr, arith, append-nil}, lemmas.Bool.{eqb-true, eqb-false}, lemmas.List.Elements.{All-head, All-tail}}
+use Rattle.std.proofs.{Common.{◌≡◌, ◌≢◌, ℕ, ◌+◌, ◌*◌, ◌^◌, ◌<◌, ◌≤◌, Bool, false, cond, eqb, List, [], ◌∷◌, ◌++◌, length, Option, Some, None, IsSome, All, refl, sym, ap, ◌∙◌, subst, ◌⊎◌, inl, inr, arith, append-nil}, lemmas.Bool.{eqb-true, eqb-false}, lemmas.List.Elements.{All-head, All-tail}}
 use Rattle.std.specs.List.{AllByRecursion, IsDistinct, range_with_len}
 use Rattle.cell_stock.specs.{Stock.{IsStock, StockValue, cells_of, stamps_of}, declared.purse.Spare.Spare}
 use Rattle.cell_stock.proofs.Cells.{IsDistinct-range, Takes-AreFresh}
@@ -8,8 +8,8 @@ use Rattle.shard_store.specs.{declared.gate.Gate.Gate, declared.gate.Phase.Phase
 use Rattle.shard_store.specs.declared.gate.Phase.TheVariants as phase
 use Rattle.list_words.specs.Counts.{Among, Each, times}
 use Rattle.list_words.proofs.{Each.each-map, Times.{times-append, same_is, same_not}, Truth.on_bool}
-use Rattle.volap_cell.specs.{AdminKinds.{Freezes, IsDivided, cells_needed, rows_at}, Cells.{GateCell, MapOf, OfStock, TheStock, phase_of, queue_in, tag_of, way_in, way_to_tree}, Errands.{RowWay, Taken, taken_of, way_of}, Falls.{Falls, gone_left, job_left, left, plenty, stage_left}, Ghost.Ghost, Growing.Queueing, Invariant.InvWith, Lineage.Lineage, Setting.Setting, Stocking.{IsWhole, items_in, spent_of}, Turning.{IsIn, Turning}, Values.{ActorValue, ErrandValue, JobValue, StageValue, IsCalled, IsDeclined, IsFrozen, Collects, Builds}, View.{View, view}, Working.{IsFrozenFor, frozen_in}, World.{Agrees, Change, World, after}, declared.job.Frozen.Frozen}
-use Rattle.volap_cell.proofs.{Cells.Past.stock-past, Persons.has-job, Views.Admin.{by_freeze, view-freeze}, Views.Fields.{IsNew, IsNewAt, actor-new}, Views.Frames.{actor-at, actor-off}, Views.Gates.gate-behind, Views.Seen.renewed}
+use Rattle.volap_cell.specs.{AdminKinds.{Freezes, IsDivided, cells_needed, rows_at}, Cells.{GateCell, MapOf, OfStock, TheStock, phase_of, queue_in, tag_of, way_in, way_to_tree}, Errands.{RowWay, Taken, taken_of, way_of}, Falls.{Falls, gone_left, job_left, left, plenty, stage_left}, Ghost.Ghost, Growing.Queueing, Invariant.InvWith, Lineage.Lineage, Reusing.is_gone, Setting.Setting, Stocking.{IsWhole, items_in, spent_of}, Turning.{IsIn, Turning}, Values.{ActorValue, ErrandValue, JobValue, StageValue, IsCalled, IsDeclined, IsFrozen, Collects, Builds}, View.{View, view}, Working.{IsFrozenFor, frozen_in}, World.{Agrees, Change, World, after}, declared.job.Frozen.Frozen}
+use Rattle.volap_cell.proofs.{Cells.Past.stock-past, Persons.has-job, Reusing.stands-off, Views.Admin.{by_freeze, view-freeze}, Views.Fields.{IsNew, IsNewAt, actor-new}, Views.Frames.{actor-at, actor-off}, Views.Gates.gate-behind, Views.Seen.renewed}
 use Rattle.core_admin.proofs.{Jobs.Controls.control-falls, Jobs.Staging.{IsAtWork, others-jobless, staged-balancing, staged-numbering, staged-telling, staged-working}, Purses.{Reshares, reshared, reshared-stamping, reshared-stocking}}
 
 -- Spares that were just taken.
@@ -262,6 +262,10 @@ module _ (s : Setting) (w : World) (n : ℕ) (g : Ghost) (i : InvWith s (view s 
     querying = i.querying;
     working = staged-working s v i.numbering n job (IsFrozen frozen) u.jobs new v.history v.blocks v.made v.trees v.phases u.phases v.active v.queues v.purses u.purses g.gate g.shape g.placed i.working at-work;
     balancing = staged-balancing s v i.numbering n job (IsFrozen frozen) u.jobs new v.history g.placed g.home i.balancing;
+    reusing = record {
+      listed = λ a y role. i.reusing.listed a y role ∙ on-phase (λ y was now. ◌≡◌ {A = ℕ} (cond (is_gone was) 1 0) (cond (is_gone now) 1 0))
+          (ap (λ (k : Bool). cond k 1 0) (stands-off (Some gate.phase) (λ e. at.standing (cc)))) (λ y. refl) y;
+    };
   }
 
   pub frozen-holds : InvWith s u g2

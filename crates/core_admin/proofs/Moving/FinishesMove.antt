@@ -17,7 +17,7 @@ use Rattle.server_image.specs.{Registry.RegistryValue, Spots.place_of}
 use Rattle.shard_plan.specs.declared.action.Action.{Action}
 use Rattle.shard_plan.specs.declared.action.Action.TheVariants as action
 use Rattle.shard_store.specs.{Gate.IsQueueOf, declared.gate.Gate.Gate, declared.gate.Phase.TheVariants.Frozen}
-use Rattle.volap_cell.specs.{AdminKinds.{DoesFinishMove, spent_by, tree_of}, Cells.{CellValue, GateCell, LedgerCell, MapCell, RegistryCell, StockCell, active_in, block_in, gate_shard, gone_in, has_block, phase_of, pins_in, queue_in, way_in, way_to_tree}, Falls.left, Ghost.{AGate, Ghost, InJob, Owner, is_in_job, InPurse}, Growing.table_of, Invariant.InvWith, Setting.{Setting, site_in}, Steps.IsKept, Stocking.{cells_at, items_of_job, spent_of}, Values.{ActorValue, JobValue, IsCalled}, View.{View, view}, Working.{action_of, action_to, IsBuilding}, World.{Agrees, Change, World, after}}
+use Rattle.volap_cell.specs.{AdminKinds.{DoesFinishMove, Finishes, spent_by, tree_of}, Cells.{CellValue, GateCell, LedgerCell, MapCell, RegistryCell, StockCell, active_in, block_in, gate_shard, gone_in, has_block, phase_of, pins_in, queue_in, way_in, way_to_tree}, Falls.left, Ghost.{AGate, Ghost, InJob, Owner, is_in_job, InPurse}, Growing.table_of, Invariant.InvWith, Setting.{Setting, site_in}, Steps.IsKept, Stocking.{cells_at, items_of_job, spent_of}, Values.{ActorValue, JobValue, IsCalled}, View.{View, view}, Working.{action_of, action_to, IsBuilding}, World.{Agrees, Change, World, after}}
 use Rattle.volap_cell.specs.declared.kind.Kind.TheVariants as kind
 use Rattle.core_image.proofs.Commands.Jobs.{items-new, spent-new}
 use Rattle.core_admin.proofs.{Building.BuildsBlock.among-spent, Building.NewTree.{fresh-at, cells-spent, contains-among, IsNewTree, leads-to, new-tree}, EndedCells.blank-counts, Endings.{Ending, IsFinished, closes, finished, job-asked, right-action}, Jobs.FinishedJob.{live as live-here, all-rows as job-rows, front as job-front, frozen, is-gate as job-gate, is-job-cell, late as job-late, late-is as job-late-is, late-named as job-late-named, once, phase-here as job-phase, read as job-read, rows as rows_built, rows-named, rows-valid, spent-is, was as job-was}, Moving.BalanceDone.IsDoneBy, Moving.MovedKnown.{IsSameBox, comes, moved-boxes, moved-lines}, Moving.MovedShards.{moved_place, rehosted}, Moving.MovesLineage.{Moving, live-same, moved-leads}, Moving.MovesShard.{gc-now, ledger-now, kept, moved-tables, registry-now, stock-now, x-now, at-x}, PlansAhead.moved-ahead, Postponing.Returned.{cells-append, one}, Retiring.Gates.{Retiring, given_to}, SharedRows.{SharesRows, shared_ghost}}
@@ -227,7 +227,7 @@ module _ (maps : List Change) (x gc reg c led : Change) (b : ActorValue) (s : Se
     -- What becomes of the actor.
 
     closed : (b.purse ≡ []) × ((j : JobValue) → b.job ≡ Some j → j.stage ≡ IsCalled)
-    closed = closes d.of d.work d.job e led (w.actors n) b (job-asked s w n g i d.of d.work d.command d.job d.has.is_job) d.finishes
+    closed = closes x.number d.of d.work d.job e led (w.actors n) b (job-asked s w n g i d.of d.work d.command d.job d.has.is_job) d.finishes
 
     actor-now : w2.actors n ≡ b
     actor-now = actor-at w.actors n b
@@ -398,7 +398,7 @@ module _ (maps : List Change) (x gc reg c led : Change) (b : ActorValue) (s : Se
       actor = b;
       actor_is = actor-now;
       others = actor-off w.actors n b;
-      finishes = d.finishes;
+      finishes = subst (λ (k : ℕ). Finishes k d.of d.work d.job e led (w.actors n) b) (sym d.here) d.finishes;
       ledger = ledger-now maps x gc reg c led b s w n g i ag d;
       view_is = view-finish_move s w n s.hierarchy maps x gc reg c led (w.actors n) b ag d blank.tag;
       retiring = retiring;

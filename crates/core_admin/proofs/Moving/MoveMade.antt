@@ -18,9 +18,9 @@ use Rattle.core_admin.specs.FinishDue.{CanFinishHere, CanFinishMove, ClosesDone,
 use Rattle.core_admin.proofs.{Building.BuiltUp.{is-late, its-job, known}, Moving.FinishReady.moves-of, Moving.FinishesMove.{finish-move, one-table-kept, two-tables-kept}}
 
 -- A command that is noted and closed has finished its job.
-module _ (of : ℕ) (its_work : Work) (job : JobValue) (e : Event) (led : Change) (a b : ActorValue) (lv lv2 : LedgerValue) (was : led.before ≡ LedgerCell lv) (is : led.now ≡ LedgerCell lv2) (command : a.command ≡ doing of its_work)
-    (noted : NotesDone (plans its_work) of e lv lv2) (closed : ClosesDone (plans its_work) job.shard job.to a.command b.command b.job) (seen : b.seen ≡ length lv2.history) (actor_is : b ≡ record a { purse = []; seen = b.seen; command = b.command; job = b.job }) where
-  pub finishes-as : (work : Work) → its_work ≡ work → IsJobOf work job → Finishes of work job e led a b
+module _ (gate of : ℕ) (its_work : Work) (job : JobValue) (e : Event) (led : Change) (a b : ActorValue) (lv lv2 : LedgerValue) (was : led.before ≡ LedgerCell lv) (is : led.now ≡ LedgerCell lv2) (command : a.command ≡ doing of its_work)
+    (noted : NotesDone (plans its_work) of e lv lv2) (closed : ClosesDone (plans its_work) job.shard job.to a.command b.command b.job) (seen : b.seen ≡ length lv2.history) (actor_is : b ≡ record a { purse = []; seen = b.seen; command = b.command; job = b.job; gone_gates = a.gone_gates ++ gate ∷ [] }) where
+  pub finishes-as : (work : Work) → its_work ≡ work → IsJobOf work job → Finishes gate of work job e led a b
   finishes-as (work_is.Balance balance) same asks =
       let planned : plans its_work ≡ true = ap plans same in
       let did : NotesDone true of e lv lv2 = subst (λ (x : Bool). NotesDone x of e lv lv2) planned noted in
@@ -28,7 +28,7 @@ module _ (of : ℕ) (its_work : Work) (job : JobValue) (e : Event) (led : Change
       let next = on of balance (command ∙ ap (doing of) same) in
       let promised = did.promised in (
         record { ledger = lv; ledger_now = lv2; was = was; is = is; history = did.history; promised = omega (arith, promised); all_seen = seen },
-        actor_is ∙ (λ k. record a { purse = []; seen = b.seen; command = next.0 k; job = next.1 k }),
+        actor_is ∙ (λ k. record a { purse = []; seen = b.seen; command = next.0 k; job = next.1 k; gone_gates = a.gone_gates ++ gate ∷ [] }),
       )
   finishes-as (work_is.Action act) same asks =
       let planned : plans its_work ≡ false = ap plans same in
@@ -36,7 +36,7 @@ module _ (of : ℕ) (its_work : Work) (job : JobValue) (e : Event) (led : Change
       let over : ClosesDone false job.shard job.to a.command b.command b.job = subst (λ (x : Bool). ClosesDone x job.shard job.to a.command b.command b.job) planned closed in
       let promised = did.promised in (
         record { ledger = lv; ledger_now = lv2; was = was; is = is; history = did.history; promised = omega (arith, promised); all_seen = seen },
-        actor_is ∙ (λ k. record a { purse = []; seen = b.seen; command = over.0 k; job = over.1 k }),
+        actor_is ∙ (λ k. record a { purse = []; seen = b.seen; command = over.0 k; job = over.1 k; gone_gates = a.gone_gates ++ gate ∷ [] }),
       )
   finishes-as (work_is.Insert row routed) same asks = absurd asks
   finishes-as work_is.Query same asks = absurd asks
@@ -52,7 +52,7 @@ same-building x y is = cc
 module _ (hs : List Dimension) (maps maps_now : List Change) (gate_at new_at registry_at stock_at ledger_at : ℕ) (gate new registry stock ledger : CellValue) (a : ActorValue)
     (here : IsHere hs (maps ++ held gate_at gate ∷ held new_at new ∷ held registry_at registry ∷ held stock_at stock ∷ held ledger_at ledger ∷ []) a) (due : IsMovedUp gate_at new_at registry stock ledger a)
     (x x2 made : Gate) (x_is : gate ≡ GateCell x) (new2 : CellValue) (new_is : new2 ≡ GateCell made) (r r2 : RegistryValue) (r_is : registry ≡ RegistryCell r) (sv sv2 : StockValue) (sv_is : stock ≡ StockCell sv) (lv lv2 : LedgerValue) (lv_is : ledger ≡ LedgerCell lv)
-    (b : ActorValue) (did : FinishesFor hs x x2 r r2 sv sv2 lv lv2 a b) where
+    (b : ActorValue) (did : FinishesFor hs gate_at x x2 r r2 sv sv2 lv lv2 a b) where
   pub job-same : (j : JobValue) → a.job ≡ Some j → j ≡ due.up.job
   job-same j has = (let both : ◌≡◌ {A = Option JobValue} (Some j) (Some due.up.job) = sym has ∙ due.up.has.is_job in cc)
 
@@ -111,7 +111,7 @@ module _ (hs : List Dimension) (maps maps_now : List Change) (gate_at new_at reg
         purse_was = did.gives.purse_is;
         gives = did.gives.gives;
         turns_stock = record { was = sv_is; is = refl };
-        finishes = finishes-as did.of did.work did.job (Moved did.of did.job.shard did.worker) led a b lv lv2 lv_is refl did.command did.noted did.closed did.seen did.actor_is did.work refl
+        finishes = finishes-as gate_at did.of did.work did.job (Moved did.of did.job.shard did.worker) led a b lv lv2 lv_is refl did.command did.noted did.closed did.seen did.actor_is did.work refl
             (subst (λ (k : Work). IsJobOf k did.job) (sym work-same) (subst (IsJobOf due.up.work) (sym its) (its-job hs maps (held new_at new ∷ []) gate_at registry_at stock_at ledger_at gate registry stock ledger a here due.up)));
       }
 
@@ -149,7 +149,7 @@ module _ (other : OtherLaw) (ends : CollectEndLaw) (hs : List Dimension) (from_a
     (here : IsHere hs (held from_at from ∷ held to_at to ∷ held gate_at gate ∷ held new_at new ∷ held registry_at registry ∷ held stock_at stock ∷ held ledger_at ledger ∷ []) a) (due : CanFinishMove from to gate_at new_at registry stock ledger a)
     (fw tw : ℕ) (ft ft2 tt_ tt2 : map.FinMap nat_cmp Where) (from_is : from ≡ MapCell fw ft) (to_is : to ≡ MapCell tw tt_)
     (x x2 made : Gate) (x_is : gate ≡ GateCell x) (new2 : CellValue) (new_is : new2 ≡ GateCell made) (r r2 : RegistryValue) (r_is : registry ≡ RegistryCell r) (sv sv2 : StockValue) (sv_is : stock ≡ StockCell sv) (lv lv2 : LedgerValue) (lv_is : ledger ≡ LedgerCell lv)
-    (j : JobValue) (j_is : a.job ≡ Some j) (b : ActorValue) (way : MakesWay hs new_at ft ft2 tt_ tt2 x j made) (did : FinishesFor hs x x2 r r2 sv sv2 lv lv2 a b) where
+    (j : JobValue) (j_is : a.job ≡ Some j) (b : ActorValue) (way : MakesWay hs new_at ft ft2 tt_ tt2 x j made) (did : FinishesFor hs gate_at x x2 r r2 sv sv2 lv lv2 a b) where
   abbrev maps : List Change
   maps = held from_at from ∷ held to_at to ∷ []
 
@@ -195,7 +195,7 @@ module _ (other : OtherLaw) (ends : CollectEndLaw) (hs : List Dimension) (table_
     (here : IsHere hs (held table_at table ∷ held gate_at gate ∷ held new_at new ∷ held registry_at registry ∷ held stock_at stock ∷ held ledger_at ledger ∷ []) a) (due : CanFinishHere table gate_at new_at registry stock ledger a)
     (tw : ℕ) (tt_ tt2 : map.FinMap nat_cmp Where) (to_is : table ≡ MapCell tw tt_)
     (x x2 made : Gate) (x_is : gate ≡ GateCell x) (new2 : CellValue) (new_is : new2 ≡ GateCell made) (r r2 : RegistryValue) (r_is : registry ≡ RegistryCell r) (sv sv2 : StockValue) (sv_is : stock ≡ StockCell sv) (lv lv2 : LedgerValue) (lv_is : ledger ≡ LedgerCell lv)
-    (j : JobValue) (j_is : a.job ≡ Some j) (b : ActorValue) (way : MakesWayHere hs new_at tt_ tt2 x j made) (did : FinishesFor hs x x2 r r2 sv sv2 lv lv2 a b) where
+    (j : JobValue) (j_is : a.job ≡ Some j) (b : ActorValue) (way : MakesWayHere hs new_at tt_ tt2 x j made) (did : FinishesFor hs gate_at x x2 r r2 sv sv2 lv lv2 a b) where
   abbrev table_was : List Change
   table_was = held table_at table ∷ []
 

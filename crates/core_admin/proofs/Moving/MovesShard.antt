@@ -79,7 +79,7 @@ module _ (maps : List Change) (x gc reg c led : Change) (b : ActorValue) (s : Se
     stock = d.stock;
     stock_now = d.stock_now;
     turns_stock = d.turns_stock;
-    ledger = ledger-of d.of d.work d.job (Moved d.of d.job.shard d.to) led (w.actors n) b d.finishes;
+    ledger = ledger-of x.number d.of d.work d.job (Moved d.of d.job.shard d.to) led (w.actors n) b d.finishes;
   }
 
   pub at-x : w.cells x.number ≡ GateCell d.gate

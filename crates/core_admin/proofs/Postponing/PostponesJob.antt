@@ -209,6 +209,7 @@ module _ (c led : Change) (b : ActorValue) (s : Setting) (w : World) (n : ℕ) (
             i.querying;
         working = working-next s v g i n job job2 v2.jobs new (e ∷ h) command2 later v2.commands (Some its) turn v2.purses mine v.blocks v.made v.trees v.phases v.active v.queues g.gate g.shape g.placed;
         balancing = balancing;
+        reusing = i.reusing;
       }
 
       control-less : (left s w2 g2).control < (left s w g).control

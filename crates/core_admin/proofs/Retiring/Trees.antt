@@ -31,11 +31,11 @@ module _ (s : Setting) (w : World) (v2 : View) (g g2 : Ghost) (n : ℕ) (i : Inv
   back : (c : ℕ) → m.new c ≡ false → IsWhole v2.gates v2.phases v2.pins c → IsWhole v.gates v.phases v.pins c
   back = whole-back s v v2 g g2 n i m
 
-  off : (y c : ℕ) → g.owner y ≡ InTree c → v2.blocks y ≡ v.blocks y
-  off y c is = m.blocks_off y (not-new s v v2 g g2 n i m y (λ e. let no : InPurse n ≡ InTree c = sym e ∙ is in cc))
+  off : (y c : ℕ) → IsWhole v.gates v.phases v.pins c → g.owner y ≡ InTree c → v2.blocks y ≡ v.blocks y
+  off y c whole is = m.blocks_off y (not-new s v v2 g g2 n i m y (λ e. let no : InPurse n ≡ InTree c = sym e ∙ is in cc))
 
-  trees-off : (c : ℕ) → IsSome (v.gates c) → v2.trees c ≡ v.trees c
-  trees-off c is = m.trees_off c (old c is)
+  trees-off : (c : ℕ) → IsWhole v.gates v.phases v.pins c → v2.trees c ≡ v.trees c
+  trees-off c whole = m.trees_off c (old c whole.0)
 
   -- Trees and queues.
 

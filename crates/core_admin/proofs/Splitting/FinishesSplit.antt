@@ -9,7 +9,7 @@ use Rattle.shard_plan.specs.declared.action.Action.TheVariants as action
 use Rattle.list_words.specs.Counts.{same, times, Each, Among}
 use Rattle.list_words.proofs.{Each.{each-both, each-left, each-right, each-filter, each-among}, Times.{same_is, same_not, times-append}, Truth.{on_bool, eqb-self}}
 use Rattle.tree_shape.specs.{Forest.{AreInCells, filled_cells}, Laws.{CollectEndLaw, OtherLaw, GateLaw}, Shape.{Shape, numbers, nodes}, Trees.IsTree}
-use Rattle.volap_cell.specs.{AdminKinds.{DoesFinishSplit, left_of, right_of, IsTrueBox}, Cells.{stock_in, GateCell, block_in, way_in, CellValue, LedgerCell, MapCell, RegistryCell, StockCell, active_in, gate_shard, gone_in, has_block, phase_of, pins_in, queue_in, way_to_tree}, Ghost.{Ghost, Owner, InJob, InPurse, is_in_job, AGate}, Growing.table_of, Invariant.InvWith, Setting.{Setting, site_in}, Steps.{IsKept, Keeps}, Stocking.{cells_at, items_of_job, spent_of}, Values.{ActorValue, JobValue, IsCalled}, View.{View, view}, Working.{action_to, action_of, IsBuilding}, World.{Agrees, Change, World, after}}
+use Rattle.volap_cell.specs.{AdminKinds.{DoesFinishSplit, Finishes, IsTrueBox, left_of, right_of}, Cells.{stock_in, GateCell, block_in, way_in, CellValue, LedgerCell, MapCell, RegistryCell, StockCell, active_in, gate_shard, gone_in, has_block, phase_of, pins_in, queue_in, way_to_tree}, Ghost.{Ghost, Owner, InJob, InPurse, is_in_job, AGate}, Growing.table_of, Invariant.InvWith, Setting.{Setting, site_in}, Steps.{IsKept, Keeps}, Stocking.{cells_at, items_of_job, spent_of}, Values.{ActorValue, JobValue, IsCalled}, View.{View, view}, Working.{action_to, action_of, IsBuilding}, World.{Agrees, Change, World, after}}
 use Rattle.volap_cell.specs.declared.kind.Kind.TheVariants as kind
 use Rattle.core_admin.proofs.{Building.NewTree.{IsNewTree, leads-to, new-tree, fresh-at, tree-set}, EndedCells.blank-counts, Endings.{Ending, IsFinished, finished, right-action, closes, job-asked}, Jobs.FinishedJob.{frozen, live as live-here, all-rows, late, late-is, late-named, late-placed, late-valid, rows, rows-named, rows-placed, rows-valid, was, is-gate, phase-here, read, front}, Moving.BalanceDone.IsDoneBy, PlansAhead.split-ahead, Postponing.Returned.one, Retiring.Gates.{Retiring, given_to}, SharedRows.{SharesRows, shared_ghost}, Splitting.SplitBoxes.{AreShardRows, child-box}, Splitting.SplitKnown.{split-boxes, IsChildBox, split-lines, split_home, home-in, home-off}, Splitting.SplitShards.{left-live, live-before, live-still, right-live, off-left, off-right, others, places-split, shard-made, spot-worker, spots-made, spots-split}, Splitting.SplitSides.{AreTwo, job-cell as cell_of_job, left-rows, left-test, own-blocks, owner-filled as owner_of_filled, right-rows, right-test, side as side_of_row, side-times, spent-left, spent-right, two as two_of}, Splitting.SplitsLineage.{Splitting, apart, gate-made, not-left, not-right, split-leads}, Splitting.SplitsShard.{ledger-now, stock-now, at-x, kept, l-now, owner-l, owner-r, r-now, gates-apart, purse-cells, x-now, registry-now, split-tables, tables-off}}
 use Rattle.row_ledger.proofs.{Ascent.frontier-ascends, Descent.live-made, Growth.KeepsRight-split}
@@ -351,7 +351,7 @@ module _ (m x l r reg c led : Change) (b : ActorValue) (s : Setting) (w : World)
   -- The gates.
 
   closed : (b.purse ≡ []) × ((j : JobValue) → b.job ≡ Some j → j.stage ≡ IsCalled)
-  closed = closes d.of d.work d.job (Split d.of shard left right) led (w.actors n) b (job-asked s w n g i d.of d.work d.command d.job d.has.is_job) d.finishes
+  closed = closes x.number d.of d.work d.job (Split d.of shard left right) led (w.actors n) b (job-asked s w n g i d.of d.work d.command d.job d.has.is_job) d.finishes
 
   actor-now : w2.actors n ≡ b
   actor-now = actor-at w.actors n b
@@ -645,7 +645,7 @@ module _ (m x l r reg c led : Change) (b : ActorValue) (s : Setting) (w : World)
     actor = b;
     actor_is = actor-at w.actors n b;
     others = actor-off w.actors n b;
-    finishes = d.finishes;
+    finishes = subst (λ (k : ℕ). Finishes k d.of d.work d.job e led (w.actors n) b) (sym d.here) d.finishes;
     ledger = ledger-now m x l r reg c led b s w n g i ag d;
     view_is = view-finish_split s w n s.hierarchy m x l r reg c led (w.actors n) b ag d blank.0.tag blank.1.tag;
     retiring = retiring;

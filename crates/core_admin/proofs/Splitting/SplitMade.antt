@@ -28,7 +28,7 @@ module _ (other : OtherLaw) (ends : CollectEndLaw) (gates : GateLaw) (hs : List 
     (here : IsHere hs (held table_at table ∷ held gate_at gate ∷ held left_at left ∷ held right_at right ∷ held registry_at registry ∷ held stock_at stock ∷ held ledger_at ledger ∷ []) a) (due : CanFinishSplit table gate_at left_at right_at registry stock ledger a)
     (tw : ℕ) (ft ft2 : map.FinMap nat_cmp Where) (table_is : table ≡ MapCell tw ft) (x x2 left_made right_made : Gate) (x_is : gate ≡ GateCell x) (left2 : CellValue) (left_is : left2 ≡ GateCell left_made) (right2 : CellValue) (right_is : right2 ≡ GateCell right_made)
     (r r2 : RegistryValue) (r_is : registry ≡ RegistryCell r) (sv sv2 : StockValue) (sv_is : stock ≡ StockCell sv) (lv lv2 : LedgerValue) (lv_is : ledger ≡ LedgerCell lv)
-    (j : JobValue) (j_is : a.job ≡ Some j) (b : ActorValue) (way : DividesShard hs left_at right_at ft ft2 x r r2 sv.ids j left_made right_made) (did : FinishesDivided hs x x2 sv sv2 lv lv2 a b) (few : sv.ids + 2 < 2 ^ 32) where
+    (j : JobValue) (j_is : a.job ≡ Some j) (b : ActorValue) (way : DividesShard hs left_at right_at ft ft2 x r r2 sv.ids j left_made right_made) (did : FinishesDivided hs gate_at x x2 sv sv2 lv lv2 a b) (few : sv.ids + 2 < 2 ^ 32) where
   j-same : j ≡ did.job
   j-same = (let both : ◌≡◌ {A = Option JobValue} (Some j) (Some did.job) = sym j_is ∙ did.has.is_job in cc)
 
@@ -118,7 +118,7 @@ module _ (other : OtherLaw) (ends : CollectEndLaw) (gates : GateLaw) (hs : List 
     gives = did.gives.gives;
     ids = did.gives.ids;
     turns_stock = record { was = sv_is; is = refl };
-    finishes = finishes-as did.of did.work did.job (event.Split did.of did.job.shard sv.ids (sv.ids + 1)) (change ledger_at ledger (LedgerCell lv2)) a b lv lv2 lv_is refl did.command did.noted closed did.seen did.actor_is did.work refl asks;
+    finishes = finishes-as gate_at did.of did.work did.job (event.Split did.of did.job.shard sv.ids (sv.ids + 1)) (change ledger_at ledger (LedgerCell lv2)) a b lv lv2 lv_is refl did.command did.noted closed did.seen did.actor_is did.work refl asks;
   }
 
   pub split-makes : Makes hs kind.FinishSplit

@@ -80,7 +80,7 @@ module _ (m x l r reg c led : Change) (b : ActorValue) (s : Setting) (w : World)
     stock = d.stock;
     stock_now = d.stock_now;
     turns_stock = d.turns_stock;
-    ledger = ledger-of d.of d.work d.job (Split d.of d.job.shard left right) led (w.actors n) b d.finishes;
+    ledger = ledger-of x.number d.of d.work d.job (Split d.of d.job.shard left right) led (w.actors n) b d.finishes;
   }
 
   pub at-x : w.cells x.number ≡ GateCell d.gate

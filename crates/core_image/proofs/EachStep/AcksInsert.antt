@@ -234,6 +234,7 @@ module _ (d im l : Change) (b : ActorValue) (s : Setting) (w : World) (n : ℕ) 
     working = working-acked s h of way insert begun-here v.blocks v.made v.trees v.phases v.active v.queues v.purses v2.commands v.jobs g.gate g.shape g.placed began-still
         (ended-working n its v.commands v2.commands end s h v.blocks v.made v.trees v.phases v.active v.queues v.purses v.jobs g.gate g.shape g.placed jobless i.working);
     balancing = balancing-acked s h of way insert begun-here v2.commands v.jobs g.placed g.home began-still (ended-balancing n its v.commands v2.commands end s h v.jobs g.placed g.home i.balancing);
+    reusing = i.reusing;
   }
 
   -- What is left.

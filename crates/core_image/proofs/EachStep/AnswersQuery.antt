@@ -163,6 +163,7 @@ module _ (d l : Change) (b : ActorValue) (s : Setting) (w : World) (n : ℕ) (g 
     querying = cleared-querying s server does.desk v.desks v2.desks desk-turned (e ∷ h) (row_at (e ∷ h)) v.blocks v.trees v.taken v.reads g.shape g.placed g.home g.counted told.querying;
     working = ended-working n its v.commands v2.commands end s (e ∷ h) v.blocks v.made v.trees v.phases v.active v.queues v.purses v.jobs g.gate g.shape g.placed jobless told.working;
     balancing = ended-balancing n its v.commands v2.commands end s (e ∷ h) v.jobs g.placed g.home told.balancing;
+    reusing = i.reusing;
   }
 
   -- What is left.

@@ -239,6 +239,7 @@ module _ (d im l : Change) (b : ActorValue) (s : Setting) (w : World) (n : ℕ) 
         unread told.querying;
     working = going-working n None its v.commands v2.commands begins s (e ∷ h) v.blocks v.made v.trees v.phases v.active v.queues v.purses v.jobs g.gate g.shape g.placed jobless told.working;
     balancing = going-balancing n None its v.commands v2.commands begins s (e ∷ h) v.jobs g.placed g.home (λ x is. cc) told.balancing;
+    reusing = i.reusing;
   }
 
   -- What is left.

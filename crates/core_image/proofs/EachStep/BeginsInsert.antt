@@ -138,6 +138,7 @@ module _ (im l : Change) (b : ActorValue) (s : Setting) (w : World) (n : ℕ) (g
     querying = told.querying;
     working = begun-working n its v.commands v2.commands begin s (e ∷ h) v.blocks v.made v.trees v.phases v.active v.queues v.purses v.jobs g.gate g.shape g.placed does.free.job told.working;
     balancing = begun-balancing n its v.commands v2.commands begin s (e ∷ h) v.jobs g.placed g.home (λ b is. cc) told.balancing;
+    reusing = i.reusing;
   }
 
   -- What is left.

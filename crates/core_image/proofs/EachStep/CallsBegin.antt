@@ -123,6 +123,7 @@ module _ (cs : List Change) (b : ActorValue) (s : Setting) (w : World) (n : ℕ)
     querying = told.querying;
     working = started-working n its v.commands v2.commands begin job v.jobs v2.jobs new s (e ∷ h) v.roles v.purses is.new_job v.blocks v.made v.trees v.phases v.active v.queues g.gate g.shape g.placed told.working;
     balancing = started-balancing n its v.commands v2.commands begin job v.jobs v2.jobs new s (e ∷ h) v.roles v.purses is.new_job g.placed g.home is.balance told.balancing;
+    reusing = i.reusing;
   }
 
   -- What is left.

@@ -126,6 +126,7 @@ module _ (l : Change) (b : ActorValue) (s : Setting) (w : World) (n : ℕ) (g : 
     querying = told.querying;
     working = jobless-working n its v.commands v2.commands end (w.actors n).job v.jobs v2.jobs gone s (e ∷ h) v.blocks v.made v.trees v.phases v.active v.queues v.purses g.gate g.shape g.placed told.working;
     balancing = jobless-balancing n its v.commands v2.commands end (w.actors n).job v.jobs v2.jobs gone s (e ∷ h) g.placed g.home told.balancing;
+    reusing = i.reusing;
   }
 
   -- What is left.

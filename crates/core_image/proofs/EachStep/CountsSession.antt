@@ -163,6 +163,7 @@ module _ (d : Change) (b : ActorValue) (s : Setting) (w : World) (n : ℕ) (g : 
     querying = record { counts = i.querying.counts; ends = i.querying.ends; whole = i.querying.whole; reading = i.querying.reading; unread = i.querying.unread };
     working = i.working;
     balancing = i.balancing;
+    reusing = i.reusing;
   }
 
   still : Stays (w.actors n) (w2.actors n)

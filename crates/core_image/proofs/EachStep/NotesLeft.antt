@@ -343,6 +343,7 @@ module _ (l : Change) (b : ActorValue) (s : Setting) (w : World) (n : ℕ) (g : 
         i.querying;
     working = working-now;
     balancing = balancing-now;
+    reusing = i.reusing;
   }
 
   -- What is left.

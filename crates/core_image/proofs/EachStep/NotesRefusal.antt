@@ -97,6 +97,7 @@ module _ (e : Event) (l : Change) (b : ActorValue) (s : Setting) (w : World) (n 
     querying = told.querying;
     working = told.working;
     balancing = told.balancing;
+    reusing = i.reusing;
   }
 
   -- What is left.

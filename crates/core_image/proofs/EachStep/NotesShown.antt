@@ -264,6 +264,7 @@ module _ (shown : Page) (l : Change) (b : ActorValue) (s : Setting) (w : World) 
     querying = told.querying;
     working = going-working n (Some its) its_now v.commands v2.commands goes s (e ∷ h) v.blocks v.made v.trees v.phases v.active v.queues v.purses v.jobs g.gate g.shape g.placed jobless told.working;
     balancing = going-balancing n (Some its) its_now v.commands v2.commands goes s (e ∷ h) v.jobs g.placed g.home is.no_balance told.balancing;
+    reusing = i.reusing;
   }
 
   -- What is left.

@@ -208,6 +208,7 @@ module _ (d im : Change) (b : ActorValue) (s : Setting) (w : World) (n : ℕ) (g
         (λ q asked. absurd (none-asked q asked)) (λ q asked. absurd (none-asked q asked)) (λ q asked. absurd (none-asked q asked)) unread i.querying;
     working = going-working n (Some was) its v.commands v2.commands goes s h v.blocks v.made v.trees v.phases v.active v.queues v.purses v.jobs g.gate g.shape g.placed jobless i.working;
     balancing = going-balancing n (Some was) its v.commands v2.commands goes s h v.jobs g.placed g.home no-balance i.balancing;
+    reusing = i.reusing;
   }
 
   -- What is left.

@@ -256,6 +256,7 @@ module _ (im r l : Change) (b : ActorValue) (s : Setting) (w : World) (n : ℕ) 
     working = going-working n (Some had) its v.commands v2.commands goes s (e ∷ h) v.blocks v.made v.trees v.phases v.active v.queues v.purses v.jobs g.gate g.shape g.placed jobless
         (working-synced s h server listing v.blocks v.made v.trees v.phases v.active v.queues v.purses v.commands v.jobs g.gate g.shape g.placed began i.working);
     balancing = going-balancing n (Some had) its v.commands v2.commands goes s (e ∷ h) v.jobs g.placed g.home pull.no_balance (balancing-synced s h server listing v.commands v.jobs g.placed g.home began i.balancing);
+    reusing = i.reusing;
   }
 
   -- What is left.

@@ -241,6 +241,7 @@ module _ (s : Setting) (w : World) (n : ℕ) (cs : List Change) (b : ActorValue)
         (λ d upto is. t.trees_off d (λ e. let z : Some Open ≡ Some (Frozen upto) = sym t.is_open ∙ ap v.phases (sym e) ∙ is in cc))
         (λ d upto is. t.active_off d (λ e. let z : Some Open ≡ Some (Frozen upto) = sym t.is_open ∙ ap v.phases (sym e) ∙ is in cc)));
     balancing = balancing-placed v.history g.placed g.home g.path way t.arr.out older s v.commands v.jobs i.balancing;
+    reusing = i.reusing;
   }
 
   -- What is left.

@@ -208,6 +208,7 @@ module _ (m c : Change) (b : ActorValue) (s : Setting) (w : World) (n : ℕ) (g 
     querying = querying-placed h g.placed g.home g.path way out older s v.row v.blocks v.trees v.desks v.taken v.reads g.shape g.counted i.querying;
     working = working-placed h g.placed g.home g.path way out older s v.blocks v.made v.trees v.phases v.active v2.queues v.purses v.commands v.jobs g.gate g.shape working-now;
     balancing = balancing-placed h g.placed g.home g.path way out older s v.commands v.jobs i.balancing;
+    reusing = i.reusing;
   }
 
   -- What is left.

@@ -194,6 +194,7 @@ module _ (c : Change) (b : ActorValue) (s : Setting) (w : World) (n : ℕ) (g : 
     querying = i.querying;
     working = exchanged-working s w g i n u.stock b.purse jobless exchange u.purses mine off;
     balancing = i.balancing;
+    reusing = i.reusing;
   }
 
   -- What is left.

@@ -167,6 +167,7 @@ module _ (c : Change) (b : ActorValue) (s : Setting) (w : World) (n : ℕ) (g : 
     querying = i.querying;
     working = working-now;
     balancing = i.balancing;
+    reusing = i.reusing;
   }
 
   -- What is left.

@@ -283,6 +283,7 @@ module _ (s : Setting) (w : World) (n : ℕ) (cs : List Change) (b : ActorValue)
     querying = querying;
     working = i.working;
     balancing = i.balancing;
+    reusing = i.reusing;
   }
 
   -- What is left.

@@ -188,6 +188,7 @@ module _ (s : Setting) (w : World) (n : ℕ) (cs : List Change) (b : ActorValue)
     working = moved-working s v v2 g g2 n t.gate other i moves collects jobless
         (λ d upto is idle e. let z : v.active t.gate ≡ 0 = ap v.active (sym e) ∙ idle in omega (arith, busy)) (λ d upto is. refl) (λ d upto is. refl);
     balancing = i.balancing;
+    reusing = i.reusing;
   }
 
   -- What is left.

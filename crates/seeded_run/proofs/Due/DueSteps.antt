@@ -10,12 +10,12 @@ use Rattle.tree_shape.proofs.Reading.Collects.{collect-ends}
 use Rattle.volap_cell.specs.{ImageKinds.doing, Setting.Setting, Steps.{Inv, history_in}, Values.{ActorValue, ErrandValue, JobValue}, World.World, declared.command.Command.Command as OpenCommand, declared.command.Work.Work, declared.kind.Kind.Kind, declared.role.Role.Role}
 use Rattle.volap_cell.specs.declared.kind.Kind.TheVariants as kind
 use Rattle.volap_cell.specs.declared.role.Role.TheVariants as role
-use Rattle.core_due.specs.{Due.{desk_of, hand_kind, is_empty, is_empty_desk}, Laws.IsDueAt, Parts.{due_kind, part_due}, Ready.HasSpares, Wants.meets, Works.{work_due, work_due_kind}, declared.parts.PartDue.PartDue, declared.works.WorkDue.WorkDue}
+use Rattle.core_due.specs.{Due.{desk_of, hand_kind, is_empty, is_empty_desk}, Laws.IsDueAt, Parts.{due_kind, part_due}, Ready.HasSpares, Reuses.reuse_due, Wants.meets, Works.{work_due, work_due_kind}, declared.parts.PartDue.PartDue, declared.works.WorkDue.WorkDue}
 use Rattle.core_due.specs.declared.parts.PartDue.TheVariants.{Tree}
 use Rattle.core_due.proofs.{PartKinds.part-kind, WorkKinds.work-kind}
-use Rattle.core_steps.specs.declared.trees.TreeStep.TheVariants.{GiveBack}
-use Rattle.seeded_run.specs.{Can.{can, can_step}, Commands.may_begin, Due.{actor_kind, are_known, command_kind, due, due_by, first_kind, free_kind, is_alone, next_kind}, DueSteps.{IsOfKind, actor_step, command_step, due_step, free_step, step_due, step_due_by, step_if_free, step_where}, Rests.{PhaseRun, rest_of}, Told.is_of_part, declared.turn.DueStep.DueStep}
-use Rattle.seeded_run.specs.declared.turn.DueStep.TheVariants.{AtPart, AtWork, Begins, Takes}
+use Rattle.core_steps.specs.declared.{reuses.ReuseStep.ReuseStep, trees.TreeStep.TheVariants.GiveBack}
+use Rattle.seeded_run.specs.{Can.{can, can_step}, Commands.may_begin, Due.{actor_kind, are_known, command_kind, due, due_by, first_kind, free_kind, is_alone, kind_or, next_kind}, DueSteps.{IsOfKind, actor_step, command_step, due_step, free_step, step_due, step_due_by, step_if_free, step_or, step_where}, Rests.{PhaseRun, rest_of}, Told.is_of_part, declared.turn.DueStep.DueStep}
+use Rattle.seeded_run.specs.declared.turn.DueStep.TheVariants.{AtPart, AtWork, Begins, Reuses, Takes}
 use Rattle.seeded_run.proofs.Holding.LeftAlone.{both-parts}
 
 -- Kinds that begin commands.
@@ -84,6 +84,10 @@ hand-same : (a : ActorValue) (worker : ℕ) (b : Bool) → a.role ≡ role.Hand 
 hand-same a worker true is = (is, refl)
 hand-same a worker false is = tt
 
+reuse-same : (a : ActorValue) (o : Option ReuseStep) (x : Option DueStep) (k : Option Kind) → a.command ≡ None → AreSame a x k → AreSame a (step_or o x) (kind_or o k)
+reuse-same a None x k none same = same
+reuse-same a (Some step) x k none same = (none, refl)
+
 module _ (s : Setting) (w : World) (rest : ℕ → List Command) (n : ℕ) (inv : Inv s w) where
   free-same : (r : Role) → (w.actors n).role ≡ r → (w.actors n).command ≡ None → AreSame (w.actors n) (free_step s w (is_alone s w rest n) (rest n) r) (free_kind s w (is_alone s w rest n) (rest n) r)
   free-same (role.Hand worker) is none = hand-same (w.actors n) worker _ is
@@ -92,7 +96,9 @@ module _ (s : Setting) (w : World) (rest : ℕ → List Command) (n : ℕ) (inv 
   free-same role.Admin is none = begin-same (w.actors n) (free_kind s w (is_alone s w rest n) (rest n) role.Admin) none (next-begins s.hierarchy (is_alone s w rest n) None (rest n))
 
   command-same : (o : Option OpenCommand) → (w.actors n).command ≡ o → AreSame (w.actors n) (command_step s w (is_alone s w rest n) (rest n) (w.actors n) o) (command_kind s w (is_alone s w rest n) (rest n) (w.actors n) o)
-  command-same None is = free-same (w.actors n).role refl is
+  command-same None is =
+      reuse-same (w.actors n) (reuse_due w (w.actors n)) (free_step s w (is_alone s w rest n) (rest n) (w.actors n).role) (free_kind s w (is_alone s w rest n) (rest n) (w.actors n).role) is
+      (free-same (w.actors n).role refl is)
   command-same (Some c) is =
       subst (λ o. AreSame (w.actors n) (option_map AtWork (work_due s w (history_in w) (is_alone s w rest n) (w.actors n) c.of c.work)) o)
       (work-kind s w inv n c.of (λ table cells g read collected tree x. collect-ends table cells g read collected tree x) (history_in w) (is_alone s w rest n) c.work is)
@@ -183,9 +189,13 @@ abbrev pub TellsHand : Setting → World → ℕ → ℕ → Type 0
 TellsHand s w n worker =
     ((w.actors n).role ≡ role.Hand worker) × ((w.actors n).errand ≡ None) × ((w.actors n).command ≡ None) × KeepsPurse (w.actors n) × (hand_kind s w worker ≡ Some kind.TakePart)
 
+abbrev pub TellsReuse : World → ℕ → ReuseStep → Type 0
+TellsReuse w n step = ((w.actors n).errand ≡ None) × ((w.actors n).command ≡ None) × KeepsPurse (w.actors n) × (reuse_due w (w.actors n) ≡ Some step)
+
 abbrev Tells : Setting → World → (ℕ → List Command) → ℕ → DueStep → Type 0
 Tells s w rest n Begins = ((w.actors n).errand ≡ None) × ((w.actors n).command ≡ None)
 Tells s w rest n (Takes worker) = TellsHand s w n worker
+Tells s w rest n (Reuses step) = TellsReuse w n step
 Tells s w rest n (AtPart due) = TellsPart s w n due
 Tells s w rest n (AtWork due) = TellsWork s w rest n due
 
@@ -213,8 +223,14 @@ module _ (s : Setting) (w : World) (rest : ℕ → List Command) (n : ℕ) where
     free-tells role.Puller is none keeps = mapped (λ k. Begins) (Tells s w rest n) (free_kind s w (is_alone s w rest n) (rest n) role.Puller) (λ k told. (errand, none))
     free-tells role.Admin is none keeps = mapped (λ k. Begins) (Tells s w rest n) (free_kind s w (is_alone s w rest n) (rest n) role.Admin) (λ k told. (errand, none))
 
+    -- it uses a cell again, or does this
+    or-tells : (o : Option ReuseStep) (x : Option DueStep) → reuse_due w (w.actors n) ≡ o → (w.actors n).command ≡ None → KeepsPurse (w.actors n) → IfSome x (Tells s w rest n) → IfSome (step_or o x) (Tells s w rest n)
+    or-tells None x is none keeps tells = tells
+    or-tells (Some step) x is none keeps tells = (errand, none, keeps, is)
+
     command-tells : (o : Option OpenCommand) → (w.actors n).command ≡ o → KeepsPurse (w.actors n) → IfSome (command_step s w (is_alone s w rest n) (rest n) (w.actors n) o) (Tells s w rest n)
-    command-tells None is keeps = free-tells (w.actors n).role refl is keeps
+    command-tells None is keeps =
+        or-tells (reuse_due w (w.actors n)) (free_step s w (is_alone s w rest n) (rest n) (w.actors n).role) refl is keeps (free-tells (w.actors n).role refl is keeps)
     command-tells (Some c) is keeps =
         mapped AtWork (Tells s w rest n) (work_due s w (history_in w) (is_alone s w rest n) (w.actors n) c.of c.work) (λ due told. (c.of, c.work, is, errand, told))
 
@@ -240,3 +256,6 @@ at-work s w rest n due is = step-tells s w rest n (AtWork due) is
 
 pub at-take : (s : Setting) (w : World) (rest : ℕ → List Command) (n worker : ℕ) → step_due_by s w rest n ≡ Some (Takes worker) → TellsHand s w n worker
 at-take s w rest n worker is = step-tells s w rest n (Takes worker) is
+
+pub at-reuse : (s : Setting) (w : World) (rest : ℕ → List Command) (n : ℕ) (step : ReuseStep) → step_due_by s w rest n ≡ Some (Reuses step) → TellsReuse w n step
+at-reuse s w rest n step is = step-tells s w rest n (Reuses step) is

@@ -13,8 +13,9 @@ use Rattle.volap_cell.specs.declared.errand.Way.TheVariants as way
 use Rattle.volap_cell.specs.declared.kind.Kind.TheVariants as kind
 use Rattle.volap_cell.specs.declared.role.Role.TheVariants as role
 use Rattle.seeded_run.proofs.{Due.Dues.all_below-at, Phases.Movers.all-from}
-use Rattle.core_due.specs.Due.{any_below, carry_kind, desk_of, does_nothing, hand_kind, is_empty, kind_by, led_to, may_enter, placed_kind, read_kind, row_kind, task_kind}
-use Rattle.seeded_run.specs.{Due.{actor_kind, are_known, command_kind, due_by, first_kind, free_kind, is_alone, next_kind}, Running.is_closing_work, Steps.is_for_part, Told.{is_of_part, is_plain}}
+use Rattle.core_due.specs.{Due.{any_below, carry_kind, desk_of, does_nothing, hand_kind, is_empty, kind_by, led_to, may_enter, placed_kind, read_kind, row_kind, task_kind}, Reuses.reuse_due}
+use Rattle.core_steps.specs.declared.reuses.ReuseStep.{ReuseStep}
+use Rattle.seeded_run.specs.{Due.{actor_kind, are_known, command_kind, due_by, first_kind, free_kind, is_alone, kind_or, next_kind}, Running.is_closing_work, Steps.is_for_part, Told.{is_of_part, is_plain}}
 
 -- Booleans.
 
@@ -113,11 +114,17 @@ task-part w led a (OfRow r) k is = row-part w led a r.way k is
 task-part w led a (Unread f) k is = kind-by-part led _ k (λ g. refl) is
 task-part w led a (Read r) k is = let same : read_kind r.items ≡ k = cc in ap is_of_part (sym same) ∙ if-part (is_empty r.items) kind.FinishPart kind.BlockVisit refl refl
 
--- of an actor whose next step isn't such a one
+-- of an actor whose next step isn't such a one; nor does it use a cell again, if it has no command
 pub record IsAtCommand (s : Setting) (w : World) (rest : ℕ → List Command) (n : ℕ) (k : Kind) : Type 0 where
   pub errand : (w.actors n).errand ≡ None
   pub purse : (w.actors n).job ≡ None → (w.actors n).purse ≡ []
   pub due : command_kind s w (is_alone s w rest n) (rest n) (w.actors n) (w.actors n).command ≡ Some k
+  pub free : (w.actors n).command ≡ None → free_kind s w (is_alone s w rest n) (rest n) (w.actors n).role ≡ Some k
+
+-- what is due is what comes first, or what comes next
+pub due-or-next : (o : Option ReuseStep) (next : Option Kind) (k : Kind) → kind_or o next ≡ Some k → (k ≡ kind.Reuse) ⊎ (next ≡ Some k)
+due-or-next None next k is = inr is
+due-or-next (Some step) next k is = (let first : Some kind.Reuse ≡ Some k = is in let same : kind.Reuse ≡ k = cc in inl (sym same))
 
 -- whoever is at a part goes on with that by each kind of a part; and by all others nobody does
 
@@ -138,13 +145,20 @@ at-command s w rest n k due other = by-errand (w.actors n).errand refl
         ∙ ap (λ b. if b then Some kind.Refill else command_kind s w (is_alone s w rest n) (rest n) (w.actors n) (w.actors n).command) is) ∙ due in
         let same : kind.Refill ≡ k = cc in
         apart (is_for_part (w.actors n).errand k) (ap (is_for_part (w.actors n).errand) (sym same)) other
-    by-purse none false is = record {
-      errand = none;
-      purse = λ job. empty (is_empty (w.actors n).purse) refl job is;
-      due = sym (ap (actor_kind s w (is_alone s w rest n) (rest n) (w.actors n)) none
-          ∙ ap (λ b. if b then Some kind.Refill else command_kind s w (is_alone s w rest n) (rest n) (w.actors n) (w.actors n).command) is) ∙ due;
-    }
+    by-purse none false is = record { errand = none; purse = λ job. empty (is_empty (w.actors n).purse) refl job is; due = of_command; free = of_free }
       where
+        of_command : command_kind s w (is_alone s w rest n) (rest n) (w.actors n) (w.actors n).command ≡ Some k
+        of_command = sym (ap (actor_kind s w (is_alone s w rest n) (rest n) (w.actors n)) none
+            ∙ ap (λ b. if b then Some kind.Refill else command_kind s w (is_alone s w rest n) (rest n) (w.actors n) (w.actors n).command) is) ∙ due
+
+        of_free : (w.actors n).command ≡ None → free_kind s w (is_alone s w rest n) (rest n) (w.actors n).role ≡ Some k
+        of_free command =
+            elim (due-or-next (reuse_due w (w.actors n)) (free_kind s w (is_alone s w rest n) (rest n) (w.actors n).role) k
+            (sym (ap (command_kind s w (is_alone s w rest n) (rest n) (w.actors n)) command) ∙ of_command)) [
+              | inl reuse ↦ apart (is_for_part (w.actors n).errand k) (ap (is_for_part (w.actors n).errand) reuse) other
+              | inr next ↦ next
+            ]
+
         empty : (b : Bool) → is_empty (w.actors n).purse ≡ b → (w.actors n).job ≡ None → (is_none (w.actors n).job && not (is_empty (w.actors n).purse)) ≡ false → (w.actors n).purse ≡ []
         empty true at job is = empty-of (w.actors n).purse at
         empty false at job is = apart (is_none (w.actors n).job && not (is_empty (w.actors n).purse)) (rw job (rw at refl)) is
@@ -162,12 +176,9 @@ next-due s w rest n k at none hand = by (w.actors n).role refl
   where
     by : (r : Role) → (w.actors n).role ≡ r → next_kind s.hierarchy (is_alone s w rest n) (desk_of s w (w.actors n).role) (rest n) ≡ Some k
     by (role.Hand worker) is = absurd (hand worker is)
-    by (role.Session server) is = ap (λ r. next_kind s.hierarchy (is_alone s w rest n) (desk_of s w r) (rest n)) is
-        ∙ sym (ap (free_kind s w (is_alone s w rest n) (rest n)) is) ∙ sym (ap (command_kind s w (is_alone s w rest n) (rest n) (w.actors n)) none) ∙ at.due
-    by role.Puller is = ap (λ r. next_kind s.hierarchy (is_alone s w rest n) (desk_of s w r) (rest n)) is
-        ∙ sym (ap (free_kind s w (is_alone s w rest n) (rest n)) is) ∙ sym (ap (command_kind s w (is_alone s w rest n) (rest n) (w.actors n)) none) ∙ at.due
-    by role.Admin is = ap (λ r. next_kind s.hierarchy (is_alone s w rest n) (desk_of s w r) (rest n)) is
-        ∙ sym (ap (free_kind s w (is_alone s w rest n) (rest n)) is) ∙ sym (ap (command_kind s w (is_alone s w rest n) (rest n) (w.actors n)) none) ∙ at.due
+    by (role.Session server) is = ap (λ r. next_kind s.hierarchy (is_alone s w rest n) (desk_of s w r) (rest n)) is ∙ sym (ap (free_kind s w (is_alone s w rest n) (rest n)) is) ∙ at.free none
+    by role.Puller is = ap (λ r. next_kind s.hierarchy (is_alone s w rest n) (desk_of s w r) (rest n)) is ∙ sym (ap (free_kind s w (is_alone s w rest n) (rest n)) is) ∙ at.free none
+    by role.Admin is = ap (λ r. next_kind s.hierarchy (is_alone s w rest n) (desk_of s w r) (rest n)) is ∙ sym (ap (free_kind s w (is_alone s w rest n) (rest n)) is) ∙ at.free none
 
 pub closing-alone : (h : _) (alone : Bool) (desk : _) (c : Command) (more cs : List Command) (k : Kind) → next_kind h alone desk cs ≡ Some k → cs ≡ c ∷ more → closes c ≡ true → alone ≡ true
 closing-alone h true desk c more cs k due is closing = refl
@@ -212,16 +223,20 @@ module _ (s : Setting) (w : World) (g : Ghost) (i : InvWith s (view s w) g) wher
       some-none : {X : Type 0} (o : Option OpenCommand) (c : OpenCommand) → o ≡ Some c → o ≡ None → X
       some-none o c x y = cc
 
-  -- While an actor with a command that stands on no desk is alone, nothing is due for another one.
+  -- While an actor with a command that stands on no desk is alone, nothing is due for another one, but that it uses a cell again.
   pub stuck : (rest : ℕ → List Command) (a n : ℕ) (c : OpenCommand) (k : Kind) → (w.actors a).command ≡ Some c → is_on_desk c.work ≡ false → is_alone s w rest a ≡ true → n < actor_count s → n ≢ a
-      → due_by s w rest n ≡ Some k → ⊥
-  stuck rest a n c k command off alone low differs due = by-role (w.actors n).role refl
+      → due_by s w rest n ≡ Some k → k ≡ kind.Reuse
+  stuck rest a n c k command off alone low differs due =
+      elim (due-or-next (reuse_due w (w.actors n)) (free_kind s w (is_alone s w rest n) (rest n) (w.actors n).role) k of_command) [
+        | inl reuse ↦ reuse
+        | inr next ↦ absurd (by-role next (w.actors n).role refl)
+      ]
     where
       idle : IsIdle (w.actors n) × (rest n ≡ [])
       idle = alone-parts s w rest a n alone low differs
 
-      free : free_kind s w (is_alone s w rest n) (rest n) (w.actors n).role ≡ Some k
-      free = sym (ap (actor_kind s w (is_alone s w rest n) (rest n) (w.actors n)) idle.0.errand
+      of_command : command_kind s w (is_alone s w rest n) (rest n) (w.actors n) None ≡ Some k
+      of_command = sym (ap (actor_kind s w (is_alone s w rest n) (rest n) (w.actors n)) idle.0.errand
           ∙ ap (λ b. if b then Some kind.Refill else command_kind s w (is_alone s w rest n) (rest n) (w.actors n) (w.actors n).command) quiet
           ∙ ap (command_kind s w (is_alone s w rest n) (rest n) (w.actors n)) idle.0.command) ∙ due
         where
@@ -231,8 +246,8 @@ module _ (s : Setting) (w : World) (g : Ghost) (i : InvWith s (view s w) g) wher
       nothing : (desk : _) → next_kind s.hierarchy (is_alone s w rest n) desk (rest n) ≡ Some k → ⊥
       nothing desk e = let none : None ≡ Some k = sym (ap (next_kind s.hierarchy (is_alone s w rest n) desk) idle.1) ∙ e in cc
 
-      by-role : (r : Role) → (w.actors n).role ≡ r → ⊥
-      by-role (role.Hand worker) is =
+      by-role : free_kind s w (is_alone s w rest n) (rest n) (w.actors n).role ≡ Some k → (r : Role) → (w.actors n).role ≡ r → ⊥
+      by-role free (role.Hand worker) is =
           let found = on-desk worker k (sym (ap (free_kind s w (is_alone s w rest n) (rest n)) is) ∙ free) in
           elim (same-or-not found.0 a) [
             | inl same ↦ both (w.actors a).command c found.1 command (ap (λ x. (w.actors x).command) (sym same) ∙ found.2) found.3 off
@@ -244,9 +259,9 @@ module _ (s : Setting) (w : World) (g : Ghost) (i : InvWith s (view s w) g) wher
 
           none : (o : Option OpenCommand) (d : OpenCommand) → o ≡ None → o ≡ Some d → ⊥
           none o d x y = cc
-      by-role (role.Session server) is = nothing (desk_of s w (w.actors n).role) (ap (λ r. next_kind s.hierarchy (is_alone s w rest n) (desk_of s w r) (rest n)) is ∙ sym (ap (free_kind s w (is_alone s w rest n) (rest n)) is) ∙ free)
-      by-role role.Puller is = nothing (desk_of s w (w.actors n).role) (ap (λ r. next_kind s.hierarchy (is_alone s w rest n) (desk_of s w r) (rest n)) is ∙ sym (ap (free_kind s w (is_alone s w rest n) (rest n)) is) ∙ free)
-      by-role role.Admin is = nothing (desk_of s w (w.actors n).role) (ap (λ r. next_kind s.hierarchy (is_alone s w rest n) (desk_of s w r) (rest n)) is ∙ sym (ap (free_kind s w (is_alone s w rest n) (rest n)) is) ∙ free)
+      by-role free (role.Session server) is = nothing (desk_of s w (w.actors n).role) (ap (λ r. next_kind s.hierarchy (is_alone s w rest n) (desk_of s w r) (rest n)) is ∙ sym (ap (free_kind s w (is_alone s w rest n) (rest n)) is) ∙ free)
+      by-role free role.Puller is = nothing (desk_of s w (w.actors n).role) (ap (λ r. next_kind s.hierarchy (is_alone s w rest n) (desk_of s w r) (rest n)) is ∙ sym (ap (free_kind s w (is_alone s w rest n) (rest n)) is) ∙ free)
+      by-role free role.Admin is = nothing (desk_of s w (w.actors n).role) (ap (λ r. next_kind s.hierarchy (is_alone s w rest n) (desk_of s w r) (rest n)) is ∙ sym (ap (free_kind s w (is_alone s w rest n) (rest n)) is) ∙ free)
 
 -- Kinds of work.
 

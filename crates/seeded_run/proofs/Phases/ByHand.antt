@@ -62,8 +62,6 @@ begun-kind m kept n within c at begins =
 -- a step of a job that may find no memory, and whose shard is frozen, gives way to that
 instead-so : (h : List Dimension) (state : State) (n : ℕ) (work : Work) (due : WorkDue) → may_find_none (work_due_kind due) ≡ true → IsInsteadReady h state n work due → MayMakeJob h state n job.Postpone
 instead-so h state n work (Takes desk) is ready = cc
-instead-so h state n work (Books (book.BeginInsert image at measures)) is ready = cc
-instead-so h state n work (Books (book.BeginQuery desk image filter)) is ready = cc
 instead-so h state n work (Books (book.Route desk image)) is ready = cc
 instead-so h state n work (Books (book.Ack desk image)) is ready = cc
 instead-so h state n work (Books (book.Answer desk)) is ready = cc

@@ -2,6 +2,7 @@
 use Rattle.std.proofs.{Common.{◌≡◌, ◌≢◌, ◌∙◌, ℕ, ◌+◌, ◌-◌, ◌<◌, ◌≤◌, ◌⊎◌, inl, inr, Bool, true, false, List, [], ◌∷◌, ◌++◌, length, drop, Option, Some, None, refl, sym, ap, subst, arith}, lemmas.Bool.{eq-eqb, eqb-true}}
 use Rattle.std.specs.{Option.option_map_or, Prelude.{◌==◌, ◌||◌, IfSome, IsTrue, is_some, option_map, option_and_then, slice_get, if◌then◌else◌}}
 use Rattle.dim_hierarchy.specs.Dimension.{Dimension}
+use Rattle.list_words.proofs.Elements.{Some-same}
 use Rattle.row_ledger.proofs.Positions.{event_at-older, event_at-past}
 use Rattle.row_ledger.specs.{Classes.class_of, Past.{before, call_at, call_in, end_in, ends_itself, event_at, has_ended, is_end_of, is_over, pull_in, session_in}, Settled.pulls_since, declared.event.Event.Event, declared.settings.Call.Call, declared.settings.How.How, declared.settings.Use.Use}
 use Rattle.row_ledger.specs.declared.event.Event.TheVariants as event
@@ -10,11 +11,12 @@ use Rattle.script_form.specs.declared.script.Command.{Command}
 use Rattle.script_form.specs.declared.script.Command.TheVariants as script
 use Rattle.script_run.proofs.{Begin.begins-none, Between.order-other-law, InPhase.phase_other_law, PlaceFacts.begins_of-other}
 use Rattle.script_run.specs.{Between.IsInOrder, Places.{begins_of, count_of, session_of, session_of_call}, Runs.{ArePulls, HasPulls, Begins, BeginsAt}, Streams.IsInPhase}
-use Rattle.volap_cell.specs.{Commands.{MayNoteEnd, due_pull, once_shown, pulled_once}, Ghost.Ghost, ImageKinds.doing, Invariant.InvWith, Setting.Setting, Sights.IsIdle, Steps.history_in, Telling.IsProgress, Values.ActorValue, View.view, World.World, declared.command.Command.Command as OpenCommand, declared.command.Work.Work}
+use Rattle.volap_cell.specs.{Commands.{MayNoteEnd, due_pull, once_shown, pulled_once}, Ghost.Ghost, ImageKinds.doing, Invariant.InvWith, Setting.Setting, Sights.IsIdle, Steps.{Step, history_in}, Telling.IsProgress, Values.ActorValue, View.view, World.World, declared.command.Command.Command as OpenCommand, declared.command.Work.Work}
 use Rattle.volap_cell.specs.declared.command.Work.TheVariants as work_is
-use Rattle.seeded_run.proofs.{Holding.LeftAlone.{IsAtCommand, alone-from, alone-parts, apart, at-command, both-parts, closing-off, does-nothing, page-closing, plain-open, same-or-not, stuck, true-or, within-of}, Phases.Pulled.{deed-ends, deed-pulls, deed-right, deed-session, end-pulls-none, end-right, plain-pulled, pull-next, pulled-more, pulled-same, right-if}, Told.{others-law, told-law}}
+use Rattle.volap_cell.specs.declared.kind.Kind.TheVariants as kind
+use Rattle.seeded_run.proofs.{Holding.LeftAlone.{IsAtCommand, alone-from, alone-parts, apart, at-command, both-parts, closing-off, does-nothing, is-idle, page-closing, plain-open, same-or-not, stuck, true-or, within-of}, Instead.made-as-due, Phases.InTurn.{nobody-else, own-or-over}, Phases.Pulled.{deed-ends, deed-pulls, deed-right, deed-session, end-pulls-none, end-right, plain-pulled, pull-next, pulled-more, pulled-same, right-if}, Told.{others-law, reuse-keeps, reuse-tells, told-law}}
 use Rattle.core_due.specs.Due.{does_nothing}
-use Rattle.seeded_run.specs.{Can.{can, can_step}, Cursors.HasCursors, Due.is_alone, Kept.{IsTurn, KeepsOtherLaw}, Rests.{PhaseRun, first_open_behind, first_open, is_over_behind, rest_of, stream_of}, Running.{AreAtOwn, AreOthersIdle, HasPulled, IsRunning, RunsBehind, behind, is_closing_work, opened_in}, Steps.is_for_part, Told.{GoesFurther, OfBeginning, OfDeed, OfEnd, OfNothing, OfPage, OfPull, TellsDeed, TellsEnd, TellsNothing, TellsPage, TellsPull, Told, is_of_part, is_plain}}
+use Rattle.seeded_run.specs.{Can.{can, can_step, is_turn_of}, Cursors.HasCursors, Due.{due, is_alone}, Instead.in_place_of, Kept.{IsTurn, KeepsOtherLaw}, Rests.{PhaseRun, first_open_behind, first_open, is_over_behind, rest_of, stream_of}, Running.{AreAtOwn, AreOthersIdle, HasPulled, IsRunning, RunsBehind, behind, is_closing_work, opened_in}, Steps.is_for_part, Told.{GoesFurther, OfBeginning, OfDeed, OfEnd, OfNothing, OfPage, OfPull, TellsDeed, TellsEnd, TellsNothing, TellsPage, TellsPull, Told, is_of_part, is_plain}}
 use Rattle.volap_cell.proofs.OneEvent.Noted.{end-begins-none}
 
 -- Events that neither begin nor end a command.
@@ -159,9 +161,20 @@ module _ (in_order : Bool) (s : Setting) (p : PhaseRun) (w now : World) (g g_now
   pub opened-other : (t : ℕ) → t ≢ n → opened_in now t ≡ opened_in w t
   opened-other t differs = ap (λ (x : ActorValue). option_map (λ (c : OpenCommand). c.of) x.command) (others t differs)
 
-  -- no other has an open command that closes the phase
-  not-other : (a : ℕ) (c : OpenCommand) → a ≢ n → (now.actors a).command ≡ Some c → is_closing_work c.work ≡ true → ⊥
-  not-other a c differs at closing =
+  -- Where a cell is used again nothing is told, and the actor has as much to do as before.
+
+  used-again : turn.due_kind ≡ kind.Reuse → turn.made ≡ kind.Reuse
+  used-again is = made-as-due turn.due_kind turn.made (ap in_place_of is) turn.stands ∙ is
+
+  same-history : turn.due_kind ≡ kind.Reuse → history_in now ≡ history_in w
+  same-history is = (reuse-tells s n w now g g_now i i_now (subst (λ k. Step s k n w now) (used-again is) turn.step)).history
+
+  same-work : turn.due_kind ≡ kind.Reuse → does_nothing (now.actors n) ≡ does_nothing (w.actors n)
+  same-work is = reuse-keeps s n w now (subst (λ k. Step s k n w now) (used-again is) turn.step)
+
+  -- beside an open command of another actor that closes the phase nothing else is made
+  reuse-beside : (a : ℕ) (c : OpenCommand) → a ≢ n → (now.actors a).command ≡ Some c → is_closing_work c.work ≡ true → turn.due_kind ≡ kind.Reuse
+  reuse-beside a c differs at closing =
       let was = was-at a c differs at in
       stuck s w g i (rest_of p (history_in w)) a n c turn.due_kind was (closing-off c.work closing) (r.closing a c was closing) turn.within (λ e. differs (sym e)) turn.is_due
 
@@ -215,10 +228,28 @@ module _ (in_order : Bool) (s : Setting) (p : PhaseRun) (w now : World) (g g_now
         let parts = alone-parts s w (rest_of p (history_in w)) n a alone low differs in
         (subst IsIdle (sym (others a differs)) parts.0, rest_others a differs ∙ parts.1))
 
+    -- beside a cell that is used again, so is each other actor
+    alone-beside : turn.due_kind ≡ kind.Reuse → (a : ℕ) → is_alone s w (rest_of p (history_in w)) a ≡ true → is_alone s now (rest_of p (history_in now)) a ≡ true
+    alone-beside reuse a alone = alone-from s now (rest_of p (history_in now)) a (λ b low differs.
+        let parts = alone-parts s w (rest_of p (history_in w)) a b alone low differs in
+        (still-idle b parts.0, ap (λ h. rest_of p h b) (same-history reuse) ∙ parts.1))
+      where
+        still-idle : (b : ℕ) → IsIdle (w.actors b) → IsIdle (now.actors b)
+        still-idle b idle = elim (same-or-not b n) [
+          | inl is ↦ is-idle (now.actors b) (ap (λ x. does_nothing (now.actors x)) is ∙ same-work reuse ∙ ap (λ x. does_nothing (w.actors x)) (sym is) ∙ does-nothing (w.actors b) idle)
+          | inr other ↦ subst IsIdle (sym (others b other)) idle
+        ]
+
     closing-now : Own → (a : ℕ) (c : OpenCommand) → (now.actors a).command ≡ Some c → is_closing_work c.work ≡ true → is_alone s now (rest_of p (history_in now)) a ≡ true
     closing-now own a c at closing = elim (same-or-not a n) [
       | inl is ↦ subst (λ x. is_alone s now (rest_of p (history_in now)) x ≡ true) (sym is) (alone-kept (own.closing c (ap (λ x. (now.actors x).command) (sym is) ∙ at) closing))
-      | inr differs ↦ absurd (not-other a c differs at closing)
+      | inr differs ↦ alone-beside (reuse-beside a c differs at closing) a (r.closing a c (was-at a c differs at) closing)
+    ]
+
+    pages-now : Own → (a : ℕ) (c : OpenCommand) → (now.actors a).command ≡ Some c → is_some (once_shown c.work) ≡ true → length (history_in now) ≡ c.of + 1
+    pages-now own a c at page = elim (same-or-not a n) [
+      | inl is ↦ own.pages c (ap (λ x. (now.actors x).command) (sym is) ∙ at) page
+      | inr differs ↦ ap length (same-history (reuse-beside a c differs at (page-closing c.work page))) ∙ (r.pages a c (was-at a c differs at) page).1
     ]
 
     pub kept-by : (now.actors n).counted ≡ (w.actors n).counted → Own → HasCursors p (history_in now) next_now → AreAtOwn p next_now → (in_order ≡ true → AreOthersIdle p now) → IsRunning in_order s p now next_now
@@ -228,10 +259,7 @@ module _ (in_order : Bool) (s : Setting) (p : PhaseRun) (w now : World) (g g_now
       cursors = cursors;
       own = at_own;
       closing = closing-now own;
-      pages = λ a c at page. elim (same-or-not a n) [
-        | inl is ↦ (closing-now own a c at (page-closing c.work page), own.pages c (ap (λ x. (now.actors x).command) (sym is) ∙ at) page)
-        | inr differs ↦ absurd (not-other a c differs at (page-closing c.work page))
-      ];
+      pages = λ a c at page. (closing-now own a c at (page-closing c.work page), pages-now own a c at page);
       nobody = λ a. elim (same-or-not a n) [
         | inl is ↦ ap (λ x. (now.actors x).counted) is ∙ counted ∙ r.nobody n
         | inr differs ↦ ap (λ (x : ActorValue). x.counted) (others a differs) ∙ r.nobody a
@@ -266,18 +294,27 @@ module _ (in_order : Bool) (s : Setting) (p : PhaseRun) (w now : World) (g g_now
 
   -- One after the other.
 
-  pub can-first : (b : Bool) → b ≡ true → can_step b s p w n ≡ true → first_open p (history_in w) ≡ Some n
-  can-first false b can_it = cc
-  can-first true b can_it = by (first_open p (history_in w)) refl (both-parts (option_map_or (λ first. first == n) (first_open p (history_in w)) false) (can s p w n) can_it).0
-    where
-      by : (o : Option ℕ) → first_open p (history_in w) ≡ o → option_map_or (λ first. first == n) o false ≡ true → first_open p (history_in w) ≡ Some n
-      by None at e = cc
-      by (Some x) at e = at ∙ ap Some (eqb-true x n e)
+  turn-of : in_order ≡ true → is_turn_of (first_open p (history_in w)) n (due s p w n) ≡ true
+  turn-of order = (both-parts (is_turn_of (first_open p (history_in w)) n (due s p w n)) (can s p w n) (ap (λ b. can_step b s p w n) (sym order) ∙ turn.can)).0
+
+  -- the first command that isn't over is the actor's, or all are over, and a cell is used again
+  first-or-over : in_order ≡ true → (first_open p (history_in w) ≡ Some n) ⊎ ((first_open p (history_in w) ≡ None) × (turn.due_kind ≡ kind.Reuse))
+  first-or-over order = elim (own-or-over (first_open p (history_in w)) n (due s p w n) (turn-of order)) [
+    | inl own ↦ inl own
+    | inr over ↦ inr (over.0, Some-same kind.Reuse turn.due_kind (sym over.1 ∙ turn.is_due))
+  ]
+
+  -- it is the actor's where the step is of its command
+  pub can-first : is_of_part turn.made ≡ false → in_order ≡ true → first_open p (history_in w) ≡ Some n
+  can-first of_command order = elim (first-or-over order) [
+    | inl own ↦ own
+    | inr over ↦ apart (is_of_part turn.made) (ap is_of_part (used-again over.1)) of_command
+  ]
 
   pub idle-from : (first_open p (history_in now) ≢ Some n → does_nothing (now.actors n) ≡ true) → (order : in_order ≡ true) → (a : ℕ) → first_open p (history_in now) ≢ Some a → does_nothing (now.actors a) ≡ true
   idle-from own order a differs = elim (same-or-not a n) [
     | inl is ↦ ap (λ x. does_nothing (now.actors x)) is ∙ own (λ here. differs (here ∙ ap Some (sym is)))
-    | inr other ↦ ap does_nothing (others a other) ∙ r.idle order a (λ here. other (same-open (first_open p (history_in w)) a n here (can-first in_order order turn.can)))
+    | inr other ↦ ap does_nothing (others a other) ∙ r.idle order a (nobody-else (first_open p (history_in w)) n (due s p w n) (turn-of order) a other)
   ]
 
   -- the actor is at its command
@@ -303,11 +340,14 @@ module _ (in_order : Bool) (s : Setting) (p : PhaseRun) (w now : World) (g g_now
   kept-quietly counted own none idle =
       kept-by next (λ t differs. rest-so none t) counted own (record { counts = λ t. ap length (none t) ∙ r.cursors.counts t }) r.own (λ order. idle-from (idle order) order)
 
-  first-stays : {X : Type 0} → first_open p (history_in now) ≡ first_open p (history_in w) → (order : in_order ≡ true) → first_open p (history_in now) ≢ Some n → X
-  first-stays same order differs = absurd (differs (same ∙ can-first in_order order turn.can))
-
   clash : (o : Option ℕ) (a : ℕ) → o ≡ None → o ≡ Some a → ⊥
   clash o a x y = cc
+
+  first-stays : first_open p (history_in now) ≡ first_open p (history_in w) → in_order ≡ true → first_open p (history_in now) ≢ Some n → does_nothing (now.actors n) ≡ true
+  first-stays same order differs = elim (first-or-over order) [
+    | inl own ↦ absurd (differs (same ∙ own))
+    | inr over ↦ same-work over.1 ∙ r.idle order n (clash (first_open p (history_in w)) n over.0)
+  ]
 
   pub keeps-other : ((e : Event) → history_in now ≡ e ∷ history_in w → session_in e ≡ None) → (now.actors n).counted ≡ (w.actors n).counted → Told s turn.made n w now → IsRunning in_order s p now next
   keeps-other none counted (OfNothing t) = kept-quietly counted (own-nothing t) (no-event t.history) (first-stays (ap (first_open p) t.history))

@@ -7,7 +7,7 @@ use Rattle.volap_cell.proofs.Sums.{sum-zero}
 use Rattle.volap_cell.specs.{Cells.active_in, Errands.way_of, Ghost.Ghost, Invariant.InvWith, Setting.{Setting, actor_count}, Steps.history_in, Turning.inside_of, Values.ErrandValue, View.view, World.World, declared.kind.Kind.Kind}
 use Rattle.seeded_run.proofs.{Due.Dues.at-part-law, Phases.Ends.no-actor, Phases.Movers.{all-from, clash, free-or-none, meets-both, no-job, undrained}, Phases.Progress.{due-or-blocked, led-known}}
 use Rattle.core_due.specs.Wants.{is_block_free, is_carried_at, is_drained, meets, wanted}
-use Rattle.seeded_run.specs.{Can.{can, can_in_order}, Due.due_by, Progress.{IsOrderedRun, IsScriptRun, OrderEndLaw}, Rests.{PhaseRun, first_open, rest_of}}
+use Rattle.seeded_run.specs.{Can.{can, can_in_order, is_turn_of}, Due.{due, due_by}, Progress.{IsOrderedRun, IsScriptRun, OrderEndLaw}, Rests.{PhaseRun, first_open, rest_of}}
 
 same-or : (a b : ℕ) → (a ≡ b) ⊎ (a ≢ b)
 same-or a b = grind arith
@@ -74,8 +74,8 @@ module _ (s : Setting) (p : PhaseRun) (w : World) (g : Ghost) (i : InvWith s (vi
       let k = own-due in
       let here : can s p w n ≡ true = ap (λ o. option_map_or (meets s w n) o false) k.1
       ∙ meets-both s w n k.0 (free-or-none s w n (wanted s w (w.actors n) k.0) (λ y is. free y)) (drained (w.actors n).errand refl) in
-      let own : option_map_or (λ m. m == n) (first_open p (history_in w)) false ≡ true = ap (λ o. option_map_or (λ m. m == n) o false) first ∙ eq-eqb n n refl in
-      both (option_map_or (λ m. m == n) (first_open p (history_in w)) false) (can s p w n) own here
+      let own : is_turn_of (first_open p (history_in w)) n (due s p w n) ≡ true = ap (λ o. is_turn_of o n (due s p w n)) first ∙ eq-eqb n n refl in
+      both (is_turn_of (first_open p (history_in w)) n (due s p w n)) (can s p w n) own here
     where
       both : (a b : Bool) → a ≡ true → b ≡ true → (a && b) ≡ true
       both true b x y = y

@@ -1,15 +1,20 @@
 -- How a phase begins and ends.
 use Rattle.std.proofs.{Common.{◌≡◌, ◌≢◌, ◌∙◌, ℕ, zero, suc, ◌+◌, ◌-◌, ◌<◌, ◌≤◌, ◌⊎◌, inl, inr, Bool, true, false, List, [], ◌∷◌, ◌++◌, length, take, drop, Option, Some, None, refl, sym, ap, subst, arith}, Math.Seq.take-length, lemmas.Bool.{eq-eqb, eqb-true}, lemmas.List.take-append-drop, lemmas.Option.slice_get_within}
-use Rattle.std.specs.{Option.option_map_or, Prelude.{◌==◌, option_and_then, slice_get}}
+use Rattle.std.specs.{Option.option_map_or, Prelude.{◌==◌, ◌&&◌, option_and_then, slice_get}}
 use Rattle.row_ledger.proofs.Positions.{event_at-here, event_at-older}
 use Rattle.row_ledger.specs.{Past.{event_at, session_in}, declared.event.Event.Event, declared.settings.Use.Use}
 use Rattle.script_form.specs.declared.script.Command.{Command}
 use Rattle.script_run.proofs.{Between.{get-behind, none-count, order-start-law, phase-end-law, phase-start-law}, NextCommand.over-now, PhaseEnds.{all-over, first-place, get-first}, PlaceFacts.{begins_of-here, begins_of-other, count_of-append}, Whole.{get-some, places-length}}
 use Rattle.script_run.specs.{Between.AreFirst, Phases.closes, Places.{begins_in, begins_of, count_of, is_over_at, places, session_of}}
-use Rattle.volap_cell.specs.{Errands.taken_of, Ghost.Ghost, Invariant.InvWith, Setting.{Setting, actor_count}, Sights.IsIdle, Steps.history_in, Values.ErrandValue, View.view, World.World, declared.command.Command.Command as OpenCommand}
-use Rattle.seeded_run.proofs.{Cursors.Cursors.{cursor-law, other-first, own-first}, Cursors.Firsts.{IsFirst, first-fails, first-none, first-pass, first-some, late-not, over-at, over_in, past-place}, Holding.LeftAlone.{alone-from, apart, both-parts, does-nothing, empty-of, is-idle, same-or-not}, Phases.Ends.end-law, Phases.Orders.order-end-law, Scripts.{same-command, script-law}}
-use Rattle.core_due.specs.Due.{does_nothing, is_empty}
-use Rattle.seeded_run.specs.{Can.able_in, Due.is_alone, Kept.{AreIdle, BehindBeginsLaw, BehindEndsLaw, HasBegunAll, PhaseBeginsLaw, PhaseEndsLaw, RunsLaw, StopsLaw}, Progress.{IsOrderedRun, IsScriptRun, is_done}, Rests.{PhaseRun, first_open, rest_of, stream_of}, Running.{IsRunning, behind, opened_in}}
+use Rattle.volap_cell.specs.{Errands.taken_of, Ghost.Ghost, Invariant.InvWith, Setting.{Setting, actor_count}, Sights.IsIdle, Steps.history_in, Values.ErrandValue, View.view, World.World, declared.command.Command.Command as OpenCommand, declared.role.Role.TheVariants.Admin}
+use Rattle.volap_cell.specs.declared.kind.Kind.TheVariants as kind
+use Rattle.seeded_turns.proofs.Able.{able_place}
+use Rattle.seeded_turns.specs.Drawn.{able}
+use Rattle.core_steps.specs.declared.reuses.ReuseStep.{ReuseStep}
+use Rattle.core_due.proofs.ReusesPrepared.{none-gone}
+use Rattle.core_due.specs.{Due.{does_nothing, is_empty}, Reuses.reuse_due, Wants.meets}
+use Rattle.seeded_run.proofs.{Cursors.Cursors.{cursor-law, other-first, own-first}, Cursors.Firsts.{IsFirst, first-fails, first-none, first-pass, first-some, late-not, over-at, over_in, past-place}, Due.DueReuses.{idle-kind, idle-meets}, Holding.LeftAlone.{alone-from, apart, both-parts, does-nothing, empty-of, is-idle, same-or-not}, Phases.Ends.{end-law, no-actor}, Phases.Orders.order-end-law, Scripts.{role-is, same-command, script-law}}
+use Rattle.seeded_run.specs.{Can.{able_in, can, can_step, is_reuse, is_turn_of}, Due.{due, free_kind, is_alone, kind_or}, Kept.{AreIdle, BehindBeginsLaw, BehindEndsLaw, HasBegunAll, IsNoneGone, PhaseBeginsLaw, PhaseEndsLaw, RunsLaw, StopsLaw}, Progress.{IsOrderedRun, IsScriptRun, is_done}, Rests.{PhaseRun, first_open, rest_of, stream_of}, Running.{IsRunning, behind, opened_in}}
 
 -- Streams by places.
 
@@ -282,6 +287,40 @@ module _ (in_order : Bool) (s : Setting) (p : PhaseRun) (w : World) (g : Ghost) 
         by false free = all-idle (λ a low. is-idle (w.actors a) (both-parts (does_nothing (w.actors a)) (is_empty (rest_of p (history_in w) a)) (each-done free a low)).0)
         by true order = λ a. is-idle (w.actors a) (r.idle order a (λ here. some-none (first_open p (history_in w)) a (none-open-first order) here))
 
+    -- So the administrator can't use a cell again, and none is left that could be.
+
+    abbrev admin : ℕ
+    admin = s.servers + 1
+
+    module _ (step : ReuseStep) (is : reuse_due w (w.actors (s.servers + 1)) ≡ Some step) where
+      reuse-is-due : due s p w admin ≡ Some kind.Reuse
+      reuse-is-due =
+          let rest = rest_of p (history_in w) in
+          idle-kind s w admin (idle-at-end admin) (is_alone s w rest admin) (rest admin)
+          ∙ ap (λ o. kind_or o (free_kind s w (is_alone s w rest admin) (rest admin) (w.actors admin).role)) is
+
+      can-reuse : can s p w admin ≡ true
+      can-reuse = ap (λ o. option_map_or (meets s w admin) o false) reuse-is-due ∙ idle-meets s w admin (idle-at-end admin) kind.Reuse
+
+      admin-steps : (b : Bool) → in_order ≡ b → can_step b s p w admin ≡ true
+      admin-steps false free = can-reuse
+      admin-steps true order =
+          ap (λ o. is_turn_of o admin (due s p w admin) && can s p w admin) (none-open-first order)
+          ∙ ap (λ k. is_reuse k && can s p w admin) reuse-is-due
+          ∙ can-reuse
+
+    none-reusable : reuse_due w (w.actors admin) ≡ None
+    none-reusable = by (reuse_due w (w.actors admin)) refl
+      where
+        by : (o : Option ReuseStep) → reuse_due w (w.actors admin) ≡ o → reuse_due w (w.actors admin) ≡ None
+        by None is = is
+        by (Some step) is =
+            no-actor (able (can_step in_order s p w) (actor_count s)) (length (able (can_step in_order s p w) admin)) admin none
+            (able_place (can_step in_order s p w) (actor_count s) admin (slice_get_within s.roles admin Admin r.roles.admin) (admin-steps step is in_order refl))
+
+    pub none-gone-at-end : IsNoneGone w
+    none-gone-at-end = none-gone s w g i admin (role-is s w g i r.roles admin Admin r.roles.admin) (λ a. (idle-at-end a).errand) none-reusable
+
     -- each command has begun
     pub all-begun : (k : ℕ) (c : Command) → slice_get p.commands k ≡ Some c → k < next (session_of p.with c)
     all-begun k c at = by in_order refl
@@ -311,7 +350,7 @@ runs-law in_order s p w g next i r = (script in_order s p w g next i r, λ order
 -- Ending.
 
 pub phase-ends-law : PhaseEndsLaw
-phase-ends-law in_order s p w g next i r none = (idle-at-end in_order s p w g next i r none, begun-at-end in_order s p w g next i r none)
+phase-ends-law in_order s p w g next i r none = (idle-at-end in_order s p w g next i r none, none-gone-at-end in_order s p w g next i r none, begun-at-end in_order s p w g next i r none)
 
 pub opened-none : (w : World) (a : ℕ) → (w.actors a).command ≡ None → opened_in w a ≡ None
 opened-none w a none = rw none refl
@@ -331,6 +370,7 @@ behind-ends-law in_order s p done w g next i r b none =
         ended = λ a. opened-none w a (idle a).command;
       });
       idle = idle;
+      none_gone = none-gone-at-end in_order s p w g next i r none;
       ordered = b.ordered;
     }
 

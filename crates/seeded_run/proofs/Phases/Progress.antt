@@ -11,8 +11,9 @@ use Rattle.volap_cell.specs.{Commands.once_shown, Desking.{IsTaken, is_on_desk},
 use Rattle.volap_cell.specs.declared.command.Work.TheVariants as work_is
 use Rattle.volap_cell.specs.declared.kind.Kind.TheVariants as kind
 use Rattle.volap_cell.specs.declared.role.Role.TheVariants as role
-use Rattle.core_due.specs.Due.{all_below, desk_of, does_nothing, is_empty, kind_at_empty, kind_by_verdict, led_to, page_kind, parts_kind, work_kind}
-use Rattle.seeded_run.specs.{Due.{actor_kind, are_known, command_kind, due_by, first_kind, free_kind, is_alone, next_kind}, Progress.{DueLaw, IsScriptRun, SomeDue, is_done}}
+use Rattle.core_due.specs.{Due.{all_below, desk_of, does_nothing, is_empty, kind_at_empty, kind_by_verdict, led_to, page_kind, parts_kind, work_kind}, Reuses.reuse_due}
+use Rattle.core_steps.specs.declared.reuses.ReuseStep.{ReuseStep}
+use Rattle.seeded_run.specs.{Due.{actor_kind, are_known, command_kind, due_by, first_kind, free_kind, is_alone, kind_or, next_kind}, Progress.{DueLaw, IsScriptRun, SomeDue, is_done}}
 use Rattle.seeded_run.proofs.Due.Dues.{at-part-law}
 
 and-three : (a b c : Bool) → (a && b && c) ≡ true → (a ≡ true) × (b ≡ true) × (c ≡ true)
@@ -262,9 +263,15 @@ module _ (s : Setting) (w : World) (g : Ghost) (rest : ℕ → List Command) (i 
           inl (inl (kind.Refill, by-purse a errand (rw job (rw purse refl))))
       without-command errand command true purse =
           let job = no-job (w.actors a).job refl command in
-          by-role a low command
-          (by-command a errand (rw job (rw purse refl)) ∙ ap (command_kind s w (is_alone s w rest a) (rest a) (w.actors a)) command)
-          (idle-left command errand job purse) (w.actors a).role refl
+          let due = by-command a errand (rw job (rw purse refl)) ∙ ap (command_kind s w (is_alone s w rest a) (rest a) (w.actors a)) command in
+          by-reuse (reuse_due w (w.actors a)) refl due (idle-left command errand job purse)
+        where
+          -- it uses a cell again, if it can
+          by-reuse : (o : Option ReuseStep) → reuse_due w (w.actors a) ≡ o → due_by s w rest a ≡ kind_or (reuse_due w (w.actors a)) (free_kind s w (is_alone s w rest a) (rest a) (w.actors a).role) → is_empty (rest a) ≡ false
+              → Goes a ⊎ Blocked a
+          by-reuse (Some step) is due left = inl (inl (kind.Reuse, due ∙ ap (λ o. kind_or o (free_kind s w (is_alone s w rest a) (rest a) (w.actors a).role)) is))
+          by-reuse None is due left =
+              by-role a low command (due ∙ ap (λ o. kind_or o (free_kind s w (is_alone s w rest a) (rest a) (w.actors a).role)) is) left (w.actors a).role refl
 
       with-command : (w.actors a).errand ≡ None → (c : OpenCommand) → (w.actors a).command ≡ Some c → (b : Bool) → (is_none (w.actors a).job && not (is_empty (w.actors a).purse)) ≡ b → Goes a
       with-command errand c command true purse = inl (kind.Refill, by-purse a errand purse)

@@ -1,5 +1,5 @@
 -- What an actor's step is as a turn of a phase, and what holds behind it.
-use Rattle.std.proofs.Common.{◌≡◌, ◌≢◌, ◌∙◌, ◌<◌, ◌≤◌, ◌⊎◌, inl, inr, ℕ, suc, Bool, true, false, List, [], ◌∷◌, length, get_or, Option, Some, None, is_none, refl, sym, ap, subst, arith, eqb-true, ◌==◌}
+use Rattle.std.proofs.Common.{◌≡◌, ◌≢◌, ◌∙◌, ◌<◌, ◌≤◌, ◌⊎◌, inl, inr, ℕ, suc, Bool, true, false, List, [], ◌∷◌, length, get_or, Option, Some, None, is_none, refl, sym, ap, subst, arith}
 use Rattle.std.specs.{Option.option_map_or, Prelude.slice_get}
 use Rattle.row_ledger.specs.{Past.session_in, declared.event.Event.Event, declared.settings.Use.Use}
 use Rattle.core_steps.specs.Steps.{IsFurther, IsSame}
@@ -11,8 +11,8 @@ use Rattle.script_run.specs.{Places.{begins_of, session_of}, Runs.Begins}
 use Rattle.volap_cell.specs.{Setting.{Setting, actor_count}, State.Stepped, Steps.{Step, history_in}, Values.{ActorValue, actor_of}, World.World, declared.actor.Actor.Actor, declared.cell.Cell.Cell, declared.command.Command.Command as OpenCommand, declared.kind.Kind.Kind, declared.kind.Kind.TheVariants.Note, declared.state.State.State}
 use Rattle.volap_cell.proofs.Cells.States.{is-some, stands}
 use Rattle.core_due.specs.{Due.does_nothing, Wants.meets}
-use Rattle.seeded_run.specs.{Arms.{GoesOnAtPart, GoesOnWithCommand, TellsIfNote}, Can.{can, can_step}, Commands.{GoesBy, IsBegunBy, IsNextAt, IsToBegin, may_begin}, Core.IsCore, Due.due, Hands.IsFreeHand, Instead.StandsFor, Kept.{IsTurn, MovesOn}, Machine.{AloneInOrder, HasLeftOver, HasMovedOn, HasTurned, IsDueNow, IsPhaseHeld, IsPhaseKept, KnowsHands, KnowsOtherHands, RestsAsIs, about_in, next_at, phase_of, world_of}, Measure.BeginInTurn, Phase.most_actors, Rests.{PhaseRun, first_open, rest_of}, Running.{IsRunning, RunsBehind}, Steps.{begins_by, begins_of_one, is_for_part}, Told.is_of_part, Worlds.{setting_in, world_in}, declared.machine.Running.Running}
-use Rattle.seeded_run.proofs.{Begins.{keeps-beginning-law, quiet-law}, Counted.counted-law, Cursors.Held.rest-some, Holding.LeftAlone.{apart, both-parts, same-or-not}, Phases.Keeps.keeps-other-law, Phases.Measure.fewer-law, States.same-core, Told.others-law, Worlds.{one-setting, only-world}}
+use Rattle.seeded_run.specs.{Arms.{GoesOnAtPart, GoesOnWithCommand, TellsIfNote}, Can.{can, can_step, is_turn_of}, Commands.{GoesBy, IsBegunBy, IsNextAt, IsToBegin, may_begin}, Core.IsCore, Due.due, Hands.IsFreeHand, Instead.StandsFor, Kept.{IsTurn, MovesOn}, Machine.{AloneInOrder, HasLeftOver, HasMovedOn, HasTurned, IsDueNow, IsPhaseHeld, IsPhaseKept, KnowsHands, KnowsOtherHands, RestsAsIs, about_in, next_at, phase_of, world_of}, Measure.BeginInTurn, Phase.most_actors, Rests.{PhaseRun, first_open, rest_of}, Running.{IsRunning, RunsBehind}, Steps.{begins_by, begins_of_one, is_for_part}, Told.is_of_part, Worlds.{setting_in, world_in}, declared.machine.Running.Running}
+use Rattle.seeded_run.proofs.{Begins.{keeps-beginning-law, quiet-law}, Counted.counted-law, Cursors.Held.rest-some, Holding.LeftAlone.{apart, both-parts, same-or-not}, Phases.InTurn.nobody-else, Phases.Keeps.keeps-other-law, Phases.Measure.fewer-law, States.same-core, Told.others-law, Worlds.{one-setting, only-world}}
 
 -- the core that stands behind a step
 pub core-then : (h : List Dimension) (with : Use) (cells cells_now : List (Option Cell)) (actors actors_now : List (Option Actor)) (s : Setting) (w : World) (k : Kind) (n : ℕ)
@@ -84,13 +84,6 @@ some-is : (o : Option Kind) (k : Kind) (test : Kind → Bool) → o ≡ Some k �
 some-is None k test is e = cc
 some-is (Some x) k test is e = let same : x ≡ k = cc in ap test (sym same) ∙ e
 
-some-apart : (o : Option ℕ) (a b : ℕ) → o ≡ Some a → a ≢ b → o ≢ Some b
-some-apart o a b x differs y = differs (let z : ◌≡◌ {A = Option ℕ} (Some a) (Some b) = sym x ∙ y in cc)
-
-first-is : (o : Option ℕ) (n : ℕ) → option_map_or (λ first. first == n) o false ≡ true → o ≡ Some n
-first-is None n e = cc
-first-is (Some a) n e = ap Some (eqb-true a n e)
-
 module _ (m : Running) (kept : IsPhaseKept m) (n : ℕ) (due_kind : Kind) (now_due : IsDueNow m n due_kind) where
   abbrev s : Setting
   s = about_in m
@@ -104,7 +97,7 @@ module _ (m : Running) (kept : IsPhaseKept m) (n : ℕ) (due_kind : Kind) (now_d
   -- who can step can make the step that is due, in whatever order commands go
   can-now : (b : Bool) → can_step b s p w n ≡ true → can s p w n ≡ true
   can-now false e = e
-  can-now true e = (both-parts (option_map_or (λ first. first == n) (first_open p (history_in w)) false) (can s p w n) e).1
+  can-now true e = (both-parts (is_turn_of (first_open p (history_in w)) n (due s p w n)) (can s p w n) e).1
 
   pub meets-it : meets s w n due_kind ≡ true
   meets-it = some-is (due s p w n) due_kind (meets s w n) now_due.due_is (can-now m.in_order now_due.can)
@@ -146,8 +139,8 @@ module _ (m : Running) (kept : IsPhaseKept m) (n : ℕ) (due_kind : Kind) (now_d
   alone-before : AloneInOrder m n
   alone-before order a differs =
       let is : can_step true s p w n ≡ true = ap (λ b. can_step b s p w n) (sym order) ∙ now_due.can in
-      let first = first-is (first_open p (history_in w)) n (both-parts (option_map_or (λ first. first == n) (first_open p (history_in w)) false) (can s p w n) is).0 in
-      kept.is_running.idle order a (some-apart (first_open p (history_in w)) n a first (λ same. differs (sym same)))
+      let turn = (both-parts (is_turn_of (first_open p (history_in w)) n (due s p w n)) (can s p w n) is).0 in
+      kept.is_running.idle order a (nobody-else (first_open p (history_in w)) n (due s p w n) turn a differs)
 
   -- A step that begins nothing.
   module _ (state_now : State) (k : Kind) (stepped : IsFurther m.h.now k n m.state state_now)

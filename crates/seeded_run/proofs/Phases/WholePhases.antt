@@ -367,7 +367,7 @@ module _ (m : Running) (first : IsFirstMoment m) (schedule : Schedule) (order : 
         turns = runs schedule_now from (ran start held_start.kept schedule now schedule_now r);
         rested = comes-to-rest same.0 same.1 none;
         idle = ends.0;
-        begun = subst (HasBegunAll (phase_of m)) there (as-before (λ b s p. HasBegunAll p (world_of now)) m now same.0 same.1 ends.1);
+        begun = subst (HasBegunAll (phase_of m)) there (as-before (λ b s p. HasBegunAll p (world_of now)) m now same.0 same.1 ends.2);
         behind = ended-behind m now first.before same.0 same.1 held_now none;
       }
 

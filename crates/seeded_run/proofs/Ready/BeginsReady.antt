@@ -1,17 +1,17 @@
 -- Where the beginning of a command is due, the state has what its step asks; and what the step tells is that beginning.
 use Rattle.std.proofs.{Common.{ℕ, ℤ, ◌≡◌, ◌<◌, true, false, List, ◌∷◌, length, Option, Some, None, get_or, position, refl, sym, ap, ◌∙◌, subst}, lemmas.Option.get_or_from_slice_get}
 use Rattle.std.specs.{List.slice_index_or, Prelude.{⊤, is_none}}
-use Rattle.core_due.specs.{Ready.IsStateOf, WorksReady.{IsBookAsked, MayMakeBook}}
-use Rattle.core_due.proofs.{BooksHeld.{book-prepared, hold-ledger}, Holding.{CanHoldAll, hold-two, prepared}, InStates.may-make}
+use Rattle.core_due.specs.Ready.{IsStateOf}
+use Rattle.core_due.proofs.{BooksHeld.hold-ledger, Holding.{CanHoldAll, hold-three, hold-two, prepared}, InStates.may-make}
 use Rattle.core_image.specs.{Asking.CanBeginQuery, NotesDue.{CanBeginInsert, CanNoteAsking, CanNoteCalled, CanNoteRefused, CanNoteUnknown}, Told.{asked_by, begun_by, called_by, refused_by, unknown_by}}
-use Rattle.core_steps.specs.{Books.{book_asks, book_places}, Places.{numbers, one_at, two_at, values_at}, Steps.{IsSame, MayMake}, declared.books.BookStep.BookStep}
-use Rattle.core_steps.specs.declared.books.BookStep.TheVariants as book
+use Rattle.core_steps.specs.{Begins.{begin_asks, begin_places}, Places.{numbers, one_at, two_at, values_at}, Steps.{IsSame, MayMake}, declared.begins.BeginStep.BeginStep}
+use Rattle.core_steps.specs.declared.begins.BeginStep.TheVariants as begin
 use Rattle.dim_hierarchy.specs.{Dimension.Dimension, Filter.{IsFilterNamed, IsFilterOf, picks}, Row.{IsCoordNamed, IsCoordOf}, declared.filter.Pick.Pick, declared.row.Coord.Coord}
 use Rattle.row_ledger.specs.{Classes.class_of, declared.event.Event.Event, declared.settings.Call.Call, declared.settings.Use.Use}
 use Rattle.script_form.specs.{declared.script.Command.Command, declared.script.NewRow.NewRow, declared.script.Question.Question}
 use Rattle.script_form.specs.declared.script.Command.TheVariants as script
 use Rattle.script_run.specs.{Places.session_of, Runs.{Begins, first_unknown}}
-use Rattle.volap_cell.specs.{Cells.{CellValue, TheLedger, TheRegistry, tag_of}, Commands.{MayCall, server_of}, ImageKinds.asks_registry, Numbering.{IsRoleOf, tag_at}, Setting.{Setting, actor_count, desk_cell, image_cell, ledger_cell, registry_cell}, State.IsWorldOf, Steps.history_in, Values.{ActorValue, actor_of}, World.World, declared.role.Role.TheVariants.Session, declared.state.State.State}
+use Rattle.volap_cell.specs.{Cells.{CellValue, DeskOf, ImageOf, TheLedger, TheRegistry, tag_of}, Commands.{MayCall, server_of}, ImageKinds.asks_registry, Numbering.{IsRoleOf, tag_at}, Setting.{Setting, actor_count, desk_cell, image_cell, ledger_cell, registry_cell}, State.IsWorldOf, Steps.history_in, Values.{ActorValue, actor_of}, World.World, declared.role.Role.TheVariants.Session, declared.state.State.State}
 use Rattle.volap_cell.proofs.{Cells.Numbers.{tag-desk, tag-image}, Cells.States.{is-some, of-it, stands}}
 use Rattle.seeded_run.specs.{Commands.{GoesBy, IsAllowedCall, IsNextAt, IsToBegin, may_be_refused}, Core.{HasCore, IsCore}, Due.are_known}
 use Rattle.seeded_run.proofs.{Due.DueBegins.{IsAtNext, at-next, may-call, no-server, role_for}, States.{same-core, state-of}, Worlds.{one-setting, only-world}}
@@ -40,13 +40,18 @@ module _ (h : List Dimension) (with : Use) (state : State) (core : HasCore h wit
   tag-is : (y : ℕ) → tag_of (w.cells y) ≡ tag_at s y
   tag-is y = core.is_core.inv.holds.numbering.tag y
 
+  -- of cells that the actor may hold
+  step-may : n < actor_count s → (row : List (Option ℕ)) (Asks : List Dimension → List (Option CellValue) → ActorValue → Type 0) → CanHoldAll s w n (numbers row) → Asks s.hierarchy (values_at w.cells row) (w.actors n)
+      → MayMake h state n row (Asks h) (λ t v m. ⊤)
+  step-may lt row Asks held asked = may-make h with state s w of n row Asks ⊤ (prepared s w core.is_core.inv n row (Asks s.hierarchy) lt held asked) tt
+
   -- At an image or a desk.
 
-  book-may : n < actor_count s → (step : BookStep) → IsBookAsked s w n step → MayMakeBook h state n step
-  book-may lt step asked = may-make h with state s w of n (book_places step) (book_asks step) ⊤ (book-prepared s w core.is_core.inv n lt step asked) tt
+  abbrev pub MayBegin : BeginStep → Type 0
+  MayBegin step = MayMake h state n (begin_places step) (begin_asks step h) (λ t v m. ⊤)
 
   pub insert-may : (new : NewRow) → IsToBegin h with state.cells.items state.actors.items n (script.Insert new) → (at : Coord) → IsCoordNamed h new.names at → (measures : ℤ) (image : ℕ) → image ≡ image_cell new.server
-      → MayMakeBook h state n (book.BeginInsert image at measures)
+      → MayBegin (begin.Insert image at measures)
   insert-may new b at named measures image image_is =
       let x = next-at (script.Insert new) b in
       let lt = there (script.Insert new) b in
@@ -59,10 +64,13 @@ module _ (h : List Dimension) (with : Use) (state : State) (core : HasCore h wit
         ledger_is = tag-is ledger_cell;
         coord = subst (λ (g : List Dimension). IsCoordOf g at) (sym core.is_core.hierarchy) named.valid;
       } in
-      subst (λ (i : ℕ). MayMakeBook h state n (book.BeginInsert i at measures)) (sym image_is) (book-may lt (book.BeginInsert (image_cell new.server) at measures) can)
+      let step = begin.Insert (image_cell new.server) at measures in
+      subst (λ (i : ℕ). MayBegin (begin.Insert i at measures)) (sym image_is)
+      (step-may lt (begin_places step) (begin_asks step)
+      (hold-two s w core.is_core.inv n (image_cell new.server) ledger_cell (ImageOf new.server) TheLedger can.image_is can.ledger_is (λ e. cc) (λ e. cc) (λ e. cc)) can)
 
   pub query-may : (question : Question) → IsToBegin h with state.cells.items state.actors.items n (script.Query question) → (filter : List Pick) → IsFilterNamed h question.filter filter → position is_none (picks h question.filter) ≡ None
-      → (desk image : ℕ) → ((t : Setting) → t.servers ≡ with.servers → desk ≡ desk_cell t question.server) → image ≡ image_cell question.server → MayMakeBook h state n (book.BeginQuery desk image filter)
+      → (desk image : ℕ) → ((t : Setting) → t.servers ≡ with.servers → desk ≡ desk_cell t question.server) → image ≡ image_cell question.server → MayBegin (begin.Query desk image filter)
   query-may question b filter named none desk image desk_is image_is =
       let y = question.server in
       let x = next-at (script.Query question) b in
@@ -80,25 +88,24 @@ module _ (h : List Dimension) (with : Use) (state : State) (core : HasCore h wit
         image_is = tag-is (image_cell y) ∙ tag-image s y low;
         ledger_is = tag-is ledger_cell;
       } in
-      subst (λ (d : ℕ). MayMakeBook h state n (book.BeginQuery d image filter)) (sym (desk_is s core.is_core.servers))
-      (subst (λ (i : ℕ). MayMakeBook h state n (book.BeginQuery (desk_cell s y) i filter)) (sym image_is) (book-may lt (book.BeginQuery (desk_cell s y) (image_cell y) filter) can))
+      let step = begin.Query (desk_cell s y) (image_cell y) filter in
+      subst (λ (d : ℕ). MayBegin (begin.Query d image filter)) (sym (desk_is s core.is_core.servers))
+      (subst (λ (i : ℕ). MayBegin (begin.Query (desk_cell s y) i filter)) (sym image_is)
+      (step-may lt (begin_places step) (begin_asks step)
+      (hold-three s w core.is_core.inv n (desk_cell s y) (image_cell y) ledger_cell (DeskOf y) (ImageOf y) TheLedger can.desk_is can.image_is can.ledger_is (λ e. cc) (λ e. cc) (λ e. cc) (λ e. cc) (λ e. cc) (λ e. cc)) can))
 
   -- In the ledger.
-
-  note-may : n < actor_count s → (row : List (Option ℕ)) (Asks : List Dimension → List (Option CellValue) → ActorValue → Type 0) → CanHoldAll s w n (numbers row) → Asks s.hierarchy (values_at w.cells row) (w.actors n)
-      → MayMake h state n row (Asks h) (λ t v m. ⊤)
-  note-may lt row Asks held asked = may-make h with state s w of n row Asks ⊤ (prepared s w core.is_core.inv n row (Asks s.hierarchy) lt held asked) tt
 
   -- a note that asks this of the ledger alone
   pub noting : (c : Command) → IsToBegin h with state.cells.items state.actors.items n c → (Asks : List Dimension → List (Option CellValue) → ActorValue → Type 0) → Asks s.hierarchy (values_at w.cells (one_at ledger_cell)) (w.actors n)
       → MayMake h state n (one_at ledger_cell) (Asks h) (λ t v m. ⊤)
-  noting c b Asks asked = note-may (there c b) (one_at ledger_cell) Asks (hold-ledger s w core.is_core.inv n) asked
+  noting c b Asks asked = step-may (there c b) (one_at ledger_cell) Asks (hold-ledger s w core.is_core.inv n) asked
 
   -- or of the registry too
   pub noting-both : (c : Command) → IsToBegin h with state.cells.items state.actors.items n c → (Asks : List Dimension → List (Option CellValue) → ActorValue → Type 0) → Asks s.hierarchy (values_at w.cells (two_at registry_cell ledger_cell)) (w.actors n)
       → MayMake h state n (two_at registry_cell ledger_cell) (Asks h) (λ t v m. ⊤)
   noting-both c b Asks asked =
-      note-may (there c b) (two_at registry_cell ledger_cell) Asks
+      step-may (there c b) (two_at registry_cell ledger_cell) Asks
       (hold-two s w core.is_core.inv n registry_cell ledger_cell TheRegistry TheLedger (tag-is registry_cell) (tag-is ledger_cell) (λ e. cc) (λ e. cc) (λ e. cc)) asked
 
   pub unknown-asked : (c : Command) → IsToBegin h with state.cells.items state.actors.items n c → CanNoteUnknown (w.cells ledger_cell) (w.actors n)

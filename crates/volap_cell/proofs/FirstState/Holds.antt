@@ -7,8 +7,8 @@ use Rattle.list_words.proofs.Elements.{Contains-nil}
 use Rattle.row_ledger.proofs.Growth.{KeepsRight-opened}
 use Rattle.list_words.specs.Counts.{same, times}
 use Rattle.tree_shape.specs.Shape.{numbers}
-use Rattle.volap_cell.specs.{Desking.{Desking, IsTaken}, Ghost.Ghost, Invariant.InvWith, Numbering.{IsSetting, Numbering}, Opening.IsOpening, Owing.{Owing, is_insert, one_if, owed_by, serves}, Placing.{Inserting, Placing}, Querying.Querying, Setting.{Setting, actor_count, site_in}, Steps.Inv, Telling.Telling, View.{View, view}, Working.{Balancing, Working}, World.World}
-use Rattle.volap_cell.proofs.{FirstState.Found.tag-is, FirstState.Past.{opening-acked, opening-insert, opening-query, opening-session}, FirstState.Servers.{all-none, covering, imaging, leading, lineage}, FirstState.Shapes.{ghost, none-there}, FirstState.Stock.{growing, pinning, queueing, resting, stamping, stocking, turning}, FirstState.View.{v, command-none, desk-is, job-none, no-command, no-job, no-part, no-read, no-way, op-never, opens, owed-none, parts-none, promised-none, pulled, purse-none, quiet, sum-none, taken-none}}
+use Rattle.volap_cell.specs.{Desking.{Desking, IsTaken}, Ghost.Ghost, Invariant.InvWith, Numbering.{IsSetting, Numbering}, Opening.IsOpening, Owing.{Owing, is_insert, one_if, owed_by, serves}, Placing.{Inserting, Placing}, Querying.Querying, Reusing.Reusing, Setting.{Setting, actor_count, site_in}, Steps.Inv, Telling.Telling, View.{View, view}, Working.{Balancing, Working}, World.World}
+use Rattle.volap_cell.proofs.{FirstState.Found.tag-is, FirstState.Past.{opening-acked, opening-insert, opening-query, opening-session}, FirstState.Servers.{all-none, covering, imaging, leading, lineage}, FirstState.Shapes.{ghost, none-there}, FirstState.Stock.{growing, pinning, queueing, resting, stamping, stocking, turning}, FirstState.View.{v, command-none, desk-is, job-none, no-command, no-job, no-part, no-read, no-way, not-gone, op-never, opens, owed-none, parts-none, promised-none, pulled, purse-none, quiet, sum-none, taken-none}, Reusing.stands-off}
 
 module _ (s : Setting) (w : World) (set : IsSetting s) (o : IsOpening s w) where
   abbrev vs : View
@@ -136,6 +136,11 @@ module _ (s : Setting) (w : World) (set : IsSetting s) (o : IsOpening s w) where
   balancing : Balancing s vs.history vs.commands vs.jobs g.placed g.home
   balancing = record { balance = λ a of b is. no-command s w set o a _ is }
 
+  -- No gate is gone.
+
+  reusing : Reusing vs.roles vs.phases vs.gone_gates
+  reusing = record { listed = λ a c role. ap (times c) (o.actors a).gone_gates ∙ sym (ap (λ (b : Bool). cond b 1 0) (stands-off (vs.phases c) (not-gone s w set o c))) }
+
   -- The invariant.
 
   holds : InvWith s (view s w) g
@@ -160,6 +165,7 @@ module _ (s : Setting) (w : World) (set : IsSetting s) (o : IsOpening s w) where
     querying = querying;
     working = working;
     balancing = balancing;
+    reusing = reusing;
   }
 
 pub opening-holds : (s : Setting) (w : World) → IsSetting s → IsOpening s w → (g : Ghost) × InvWith s (view s w) g

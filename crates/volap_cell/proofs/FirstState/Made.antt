@@ -260,7 +260,7 @@ module _ (s : Setting) (set_ok : IsSetting s) (spots : List Spot) (first first_g
         subst (IsFresh s a) (sym (ap (actor_or s a) x.1)) x.2
     | inr high ↦
         let none : get_or actors a None ≡ None = get_or_past actors a None (let c = long-actors in omega arith) in
-        subst (IsFresh s a) (sym (ap (actor_or s a) none)) (record { number = refl; role = λ low. absurd (omega arith); beyond = λ past. refl; about = refl; seen = refl; counted = refl; purse = refl; boxes = refl; command = refl; errand = refl; job = refl })
+        subst (IsFresh s a) (sym (ap (actor_or s a) none)) (record { number = refl; role = λ low. absurd (omega arith); beyond = λ past. refl; about = refl; seen = refl; counted = refl; purse = refl; boxes = refl; command = refl; errand = refl; job = refl; gone_gates = refl })
   ]
 
   opening : IsOpening s w

@@ -6,9 +6,9 @@ use Rattle.describing_set.specs.declared.plane.Plane.{Plane}
 use Rattle.row_ledger.specs.{LedgerValue.LedgerValue, declared.event.Event.Event, declared.settings.Decline.Decline}
 use Rattle.shard_store.specs.declared.gate.Gate.{Gate}
 use Rattle.list_words.proofs.Each.{each-append}
-use Rattle.volap_cell.specs.{AdminKinds.{DoesDrained, CollectsBlock, CollectsQueued, CollectsAll, DoesBuildBlock, DoesFinishSplit, DoesFinishMove, DoesPostpone, Declines, Freezes, Finishes, GivesUp, MovesIn, PushesBoth}, Cells.{CellValue, FreeCell, LedgerCell, StockCell, RegistryCell, ImageCell, DeskCell, MapCell, GateCell, BlockCell, OfStock, tag_of}, Commands.after_action, ImageKinds.{Pushes, doing}, Planning.next_job, Setting.Setting, Values.{ActorValue, JobValue}, View.view, World.{World, Change, Agrees, after}, declared.command.Command.Command, declared.command.Work.Work}
+use Rattle.volap_cell.specs.{AdminKinds.{DoesDrained, CollectsBlock, CollectsQueued, CollectsAll, DoesBuildBlock, DoesFinishSplit, DoesFinishMove, DoesPostpone, ReusesBlock, ReusesGate, Declines, Freezes, Finishes, GivesUp, MovesIn, PushesBoth}, Cells.{CellValue, FreeCell, LedgerCell, StockCell, RegistryCell, ImageCell, DeskCell, MapCell, GateCell, BlockCell, OfStock, tag_of}, Commands.after_action, ImageKinds.{Pushes, doing}, Planning.next_job, Setting.Setting, Values.{ActorValue, JobValue}, View.view, World.{World, Change, Agrees, after}, declared.command.Command.Command, declared.command.Work.Work}
 use Rattle.volap_cell.specs.declared.command.Work.TheVariants as work_is
-use Rattle.volap_cell.proofs.{Views.Commits.view-step, Views.Frames.Same, Views.Seen.{Touched, nothing, bare, beside, actor_beside, renewed}, Views.Touches.{IsBlank, hidden, turned, turned-stock, filled-block}}
+use Rattle.volap_cell.proofs.{Views.Commits.view-step, Views.Frames.Same, Views.Seen.{Touched, nothing, bare, beside, actor_beside, renewed}, Views.Touches.{IsBlank, hidden, turned, turned-stock, filled-block, freed-block}}
 
 -- nothing but an actor's job
 abbrev pub by_job : Touched
@@ -92,6 +92,7 @@ by_finish = record nothing {
   purses = true;
   commands = true;
   jobs = true;
+  gone_gates = true;
 }
 
 -- a stock's cell that gets a gate: what it had before is of no matter
@@ -109,33 +110,33 @@ new-gate gate (MapCell w m) tag = cc
 pub gets-gate : {gate : Gate} (c : Change) → tag_of c.before ≡ OfStock → c.now ≡ GateCell gate → beside by_finish c.now ≡ beside by_finish c.before
 gets-gate {gate} c tag is = ap (beside by_finish) is ∙ new-gate gate c.before tag
 
--- what the end of a job leaves of ledger and actor, whatever its command is
-record Ends (l : Change) (a b : ActorValue) : Type 0 where
+-- what the end of a job leaves of ledger and actor, whatever its command is; the gates that are gone are these then
+record Ends (gone_gates : List ℕ) (l : Change) (a b : ActorValue) : Type 0 where
   ledger : LedgerValue
   ledger_now : LedgerValue
   was : l.before ≡ LedgerCell ledger
   is : l.now ≡ LedgerCell ledger_now
   command : Option Command
   job : Option JobValue
-  actor_is : b ≡ record a { purse = []; seen = b.seen; command = command; job = job }
+  actor_is : b ≡ record a { purse = []; seen = b.seen; command = command; job = job; gone_gates = gone_gates }
 
-ends-one : {e : Event} {used : ℕ} {l : Change} {a b : ActorValue} (command : Option Command) (job : Option JobValue) → Pushes e 0 used l b.seen → b ≡ record a { purse = []; seen = b.seen; command = command; job = job } → Ends l a b
+ends-one : {e : Event} {used : ℕ} {l : Change} {a b : ActorValue} {gone_gates : List ℕ} (command : Option Command) (job : Option JobValue) → Pushes e 0 used l b.seen → b ≡ record a { purse = []; seen = b.seen; command = command; job = job; gone_gates = gone_gates } → Ends gone_gates l a b
 ends-one command job p is = record { ledger = p.ledger; ledger_now = p.ledger_now; was = p.was; is = p.is; command = command; job = job; actor_is = is }
 
-ends-both : {e f : Event} {l : Change} {a b : ActorValue} → PushesBoth e f l b.seen × (b ≡ record a { purse = []; seen = b.seen; command = None; job = None }) → Ends l a b
+ends-both : {e f : Event} {l : Change} {a b : ActorValue} {gone_gates : List ℕ} → PushesBoth e f l b.seen × (b ≡ record a { purse = []; seen = b.seen; command = None; job = None; gone_gates = gone_gates }) → Ends gone_gates l a b
 ends-both both = let (p, is) = both in record { ledger = p.ledger; ledger_now = p.ledger_now; was = p.was; is = p.is; command = None; job = None; actor_is = is }
 
-finishes-ends : (of : ℕ) (work : Work) (job : JobValue) (e : Event) (l : Change) (a b : ActorValue) → Finishes of work job e l a b → Ends l a b
-finishes-ends of (work_is.Balance balance) job e l a b f = let (p, is) = f in ends-one (doing of (work_is.Balance (after_action true job balance))) (next_job (after_action true job balance)) p is
-finishes-ends of (work_is.Insert row routed) job e l a b f = ends-both f
-finishes-ends of work_is.Query job e l a b f = ends-both f
-finishes-ends of (work_is.Sync server pulled) job e l a b f = ends-both f
-finishes-ends of (work_is.Settle pulls) job e l a b f = ends-both f
-finishes-ends of work_is.Bare job e l a b f = ends-both f
-finishes-ends of (work_is.Page subject there shown) job e l a b f = ends-both f
-finishes-ends of (work_is.Action a_is) job e l a b f = ends-both f
+finishes-ends : (gate of : ℕ) (work : Work) (job : JobValue) (e : Event) (l : Change) (a b : ActorValue) → Finishes gate of work job e l a b → Ends (a.gone_gates ++ gate ∷ []) l a b
+finishes-ends gate of (work_is.Balance balance) job e l a b f = let (p, is) = f in ends-one (doing of (work_is.Balance (after_action true job balance))) (next_job (after_action true job balance)) p is
+finishes-ends gate of (work_is.Insert row routed) job e l a b f = ends-both f
+finishes-ends gate of work_is.Query job e l a b f = ends-both f
+finishes-ends gate of (work_is.Sync server pulled) job e l a b f = ends-both f
+finishes-ends gate of (work_is.Settle pulls) job e l a b f = ends-both f
+finishes-ends gate of work_is.Bare job e l a b f = ends-both f
+finishes-ends gate of (work_is.Page subject there shown) job e l a b f = ends-both f
+finishes-ends gate of (work_is.Action a_is) job e l a b f = ends-both f
 
-gives-up-ends : (of : ℕ) (work : Work) (job : JobValue) (l : Change) (a b : ActorValue) → GivesUp of work job l a b → Ends l a b
+gives-up-ends : (of : ℕ) (work : Work) (job : JobValue) (l : Change) (a b : ActorValue) → GivesUp of work job l a b → Ends a.gone_gates l a b
 gives-up-ends of (work_is.Balance balance) job l a b f = let (p, is) = f in ends-one (doing of (work_is.Balance (after_action false job balance))) (next_job (after_action false job balance)) p is
 gives-up-ends of (work_is.Insert row routed) job l a b f = let (p, is) = f in ends-one None None p is
 gives-up-ends of work_is.Query job l a b f = let (p, is) = f in ends-one None None p is
@@ -145,7 +146,7 @@ gives-up-ends of work_is.Bare job l a b f = let (p, is) = f in ends-one None Non
 gives-up-ends of (work_is.Page subject there shown) job l a b f = let (p, is) = f in ends-one None None p is
 gives-up-ends of (work_is.Action a_is) job l a b f = let (p, is) = f in ends-one None None p is
 
-ends-ledger : (t : Touched) → t.ledger ≡ true → {l : Change} {a b : ActorValue} → Ends l a b → beside t l.now ≡ beside t l.before
+ends-ledger : (t : Touched) → t.ledger ≡ true → {l : Change} {gone_gates : List ℕ} {a b : ActorValue} → Ends gone_gates l a b → beside t l.now ≡ beside t l.before
 ends-ledger t on {l} e =
     let ledger = hidden t.ledger bare.ledger e.ledger_now e.ledger on in
     turned (beside t) l (LedgerCell e.ledger) (LedgerCell e.ledger_now) e.was e.is (λ k. record (beside t (LedgerCell e.ledger)) { ledger = ledger k })
@@ -156,7 +157,7 @@ pub view-finish_split : (s : Setting) (w : World) (n : ℕ) (h : List Dimension)
     → view s (after w (m ∷ x ∷ l ∷ r ∷ reg ∷ c ∷ led ∷ []) n b) ≡ renewed by_finish (view s (after w (m ∷ x ∷ l ∷ r ∷ reg ∷ c ∷ led ∷ []) n b)) (view s w)
 view-finish_split s w n h m x l r reg c led a b agrees d left right =
     let t = by_finish in
-    let ends = finishes-ends d.of d.work d.job _ led a b d.finishes in
+    let ends = finishes-ends x.number d.of d.work d.job _ led a b d.finishes in
     view-step t s w (m ∷ x ∷ l ∷ r ∷ reg ∷ c ∷ led ∷ []) n a b agrees (
       turned (beside t) m _ _ d.map_was d.map_is refl,
       (
@@ -194,7 +195,7 @@ pub view-finish_move : (s : Setting) (w : World) (n : ℕ) (h : List Dimension) 
     → view s (after w (maps ++ x ∷ g ∷ reg ∷ c ∷ led ∷ []) n b) ≡ renewed by_finish (view s (after w (maps ++ x ∷ g ∷ reg ∷ c ∷ led ∷ []) n b)) (view s w)
 view-finish_move s w n h maps x g reg c led a b agrees d new =
     let t = by_finish in
-    let ends = finishes-ends d.of d.work d.job _ led a b d.finishes in
+    let ends = finishes-ends x.number d.of d.work d.job _ led a b d.finishes in
     let rest : Same (beside t) (x ∷ g ∷ reg ∷ c ∷ led ∷ []) = (turned (beside t) x _ _ d.turns.was d.turns.is refl, (gets-gate g new d.new_now, (turned (beside t) reg _ _ d.registry_was d.registry_is refl, (turned-stock t refl d.turns_stock, (ends-ledger t refl ends, tt))))) in
     view-step t s w (maps ++ x ∷ g ∷ reg ∷ c ∷ led ∷ []) n a b agrees
     (each-append (λ (k : Change). beside t k.now ≡ beside t k.before) maps (x ∷ g ∷ reg ∷ c ∷ led ∷ []) (moved-tables maps d.job d.to g.number d.moves) rest)
@@ -211,3 +212,25 @@ view-postpone s w n c led a b agrees d =
     let t = by_postpone in
     let ends = gives-up-ends d.of d.work d.job led a b d.gives_up in
     view-step t s w (c ∷ led ∷ []) n a b agrees (turned-stock t refl d.turns, (ends-ledger t refl ends, tt)) (ap (actor_beside t) ends.actor_is)
+
+-- Using cells again.
+
+-- gates and blocks, the stock, and the administrator's list
+abbrev pub by_reuse : Touched
+by_reuse = record nothing { blocks = true; gates = true; phases = true; trees = true; active = true; pins = true; queues = true; gone = true; stock = true; gone_gates = true }
+
+-- a block of the tree goes, and the gate has it in its list no more
+pub view-reuse_block : (s : Setting) (w : World) (n : ℕ) (g y c : Change) (a b : ActorValue) → Agrees w (g ∷ y ∷ c ∷ []) n a → ReusesBlock g y c a b → IsBlank y.before
+    → view s (after w (g ∷ y ∷ c ∷ []) n b) ≡ renewed by_reuse (view s (after w (g ∷ y ∷ c ∷ []) n b)) (view s w)
+view-reuse_block s w n g y c a b agrees d blank =
+    let t = by_reuse in
+    view-step t s w (g ∷ y ∷ c ∷ []) n a b agrees
+    (turned (beside t) g _ _ d.turns.was d.turns.is refl, (freed-block t refl y blank d.freed, (turned (beside t) c _ _ d.frees.was d.frees.is refl, tt)))
+    (ap (actor_beside t) d.actor_is)
+
+-- the gate goes itself
+pub view-reuse_gate : (s : Setting) (w : World) (n : ℕ) (g c : Change) (a b : ActorValue) → Agrees w (g ∷ c ∷ []) n a → ReusesGate g c a b
+    → view s (after w (g ∷ c ∷ []) n b) ≡ renewed by_reuse (view s (after w (g ∷ c ∷ []) n b)) (view s w)
+view-reuse_gate s w n g c a b agrees d =
+    let t = by_reuse in
+    view-step t s w (g ∷ c ∷ []) n a b agrees (turned (beside t) g _ _ d.was d.freed refl, (turned (beside t) c _ _ d.frees.was d.frees.is refl, tt)) (ap (actor_beside t) d.actor_is)

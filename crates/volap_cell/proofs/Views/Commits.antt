@@ -56,6 +56,7 @@ view-after t s w cs n now at same actor =
     let ways = untouched t.ways None v.ways u.ways (λ a. ap (λ (x : ActorSeen). x.way) (who a)) in
     let reads = untouched t.reads None v.reads u.reads (λ a. ap (λ (x : ActorSeen). x.reading) (who a)) in
     let jobs = untouched t.jobs None v.jobs u.jobs (λ a. ap (λ (x : ActorSeen). x.job) (who a)) in
+    let gone_gates = untouched t.gone_gates [] v.gone_gates u.gone_gates (λ a. ap (λ (x : ActorSeen). x.gone_gates) (who a)) in
     λ k. record {
       tags = tags k;
       blocks = blocks k;
@@ -87,6 +88,7 @@ view-after t s w cs n now at same actor =
       ways = ways k;
       reads = reads k;
       jobs = jobs k;
+      gone_gates = gone_gates k;
     }
 
 -- the same of a step

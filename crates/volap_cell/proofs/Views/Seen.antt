@@ -69,6 +69,7 @@ pub record ActorSeen : Type 0 where
   pub way : Option RowWay
   pub reading : Option ReadPart
   pub job : Option JobValue
+  pub gone_gates : List ℕ
 
 -- Fields.
 
@@ -97,6 +98,7 @@ pub record Touched : Type 0 where
   pub ways : Bool
   pub reads : Bool
   pub jobs : Bool
+  pub gone_gates : Bool
 
 abbrev pub nothing : Touched
 nothing = record {
@@ -123,6 +125,7 @@ nothing = record {
   ways = false;
   reads = false;
   jobs = false;
+  gone_gates = false;
 }
 
 -- what is seen of a cell beside the fields that are touched
@@ -163,6 +166,7 @@ actor_beside t a = record {
   way = cond t.ways None (way_of a.errand);
   reading = cond t.reads None (read_of a.errand);
   job = cond t.jobs None a.job;
+  gone_gates = cond t.gone_gates [] a.gone_gates;
 }
 
 -- a view with the touched fields of a new one
@@ -198,4 +202,5 @@ renewed t now v = record {
   ways = cond t.ways now.ways v.ways;
   reads = cond t.reads now.reads v.reads;
   jobs = cond t.jobs now.jobs v.jobs;
+  gone_gates = cond t.gone_gates now.gone_gates v.gone_gates;
 }

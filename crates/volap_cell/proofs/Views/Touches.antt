@@ -76,6 +76,10 @@ blank-bare t on (MapCell w m) tag gate = cc
 pub filled-block : (t : Touched) → t.blocks ≡ true → (block : Block) (c : Change) → IsBlank c.before → c.now ≡ BlockCell block → beside t c.now ≡ beside t c.before
 filled-block t on block c blank is = ap (beside t) is ∙ block-bare t on block ∙ sym (blank-bare t on c.before blank.tag blank.no_gate)
 
+-- and one that is blank is free
+pub freed-block : (t : Touched) → t.blocks ≡ true → (c : Change) → IsBlank c.before → c.now ≡ FreeCell → beside t c.now ≡ beside t c.before
+freed-block t on c blank is = ap (beside t) is ∙ sym (blank-bare t on c.before blank.tag blank.no_gate)
+
 pub filled-blocks : (t : Touched) → t.blocks ≡ true → (fresh : List Fresh) (cs : List Change) → AreFilled fresh cs → Each (λ c. IsBlank c.before) cs → Same (beside t) cs
 filled-blocks t on [] [] f b = tt
 filled-blocks t on [] (c ∷ cs) f b = absurd f

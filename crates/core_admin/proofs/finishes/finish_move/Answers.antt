@@ -1,10 +1,10 @@
 use Rattle.std.proofs.Common.{Box, Global, IsSome, Some, [], ap, option_map, refl, subst, sym, ◌∙◌, ◌∷◌}
 use Rattle.shard_store.specs.declared.gate.Gate.{Gate}
-use Rattle.volap_cell.specs.{Cells.{GateCell, LedgerCell, MapCell, RegistryCell, StockCell, cell_of, gate_shard}, Values.{actor_of, job_of}, World.held, declared.job.Job.Job}
+use Rattle.volap_cell.specs.{Cells.{GateCell, LedgerCell, MapCell, RegistryCell, StockCell, cell_of, gate_shard}, Values.{ActorValue, actor_of, job_of}, World.held, declared.job.Job.Job}
 use Rattle.volap_cell.specs.declared.cell.Cell.TheVariants as cell
 use Rattle.volap_cell.proofs.{Cells.Boxed.{gated, same-box}, Outcomes.as-err}
-use Rattle.core_admin.specs.FinishDue.{MakesWay}
-use Rattle.core_admin.proofs.{Building.BuiltUp.gate-there, Moving.FinishReady.may-finish, Moving.MoveMade.{may-make-way, move-makes}}
+use Rattle.core_admin.specs.FinishDue.{FinishesFor, MakesWay, MayFinish}
+use Rattle.core_admin.proofs.{Building.BuiltUp.gate-there, GoneRoom.with-room, Moving.FinishReady.may-finish, Moving.MoveMade.{may-make-way, move-makes}}
 use Rattle.core_admin.proofs.finishes.finish_move.Goals as goal
 
 pub unreachable-requires-in_default-gate : goal.unreachable-requires-in_default-gate
@@ -22,11 +22,13 @@ make_way-requires c = record {
 
 pub finish_for-requires : goal.finish_for-requires
 finish_for-requires c = record {
-  due = may-finish c.args.h.now (held c.args.from_at (cell_of c.args.from.now) ∷ held c.args.to_at (cell_of c.args.to.now) ∷ []) c.args.gate_at c.args.new_at c.args.registry_at c.args.stock_at c.args.ledger_at (cell_of c.args.gate.now) (cell_of c.args.new.now) (cell_of c.args.registry.now) (cell_of c.args.stock.now) (cell_of c.args.ledger.now) (actor_of c.args.actor.now) c.requires.here c.requires.due.moved
+  due = subst (λ (a : ActorValue). MayFinish c.deref_mut-3.result.now c.deref_mut-4.result.now c.deref_mut-5.result.now c.deref_mut-6.result.now a) (with-room c.args.actor.now c.reserve.new.self c.reserve.ensures.cells)
+      (may-finish c.args.h.now (held c.args.from_at (cell_of c.args.from.now) ∷ held c.args.to_at (cell_of c.args.to.now) ∷ []) c.args.gate_at c.args.new_at c.args.registry_at c.args.stock_at c.args.ledger_at (cell_of c.args.gate.now) (cell_of c.args.new.now) (cell_of c.args.registry.now) (cell_of c.args.stock.now) (cell_of c.args.ledger.now) (actor_of c.args.actor.now) c.requires.here c.requires.due.moved
       c.deref_mut-3.result.now (ap cell_of c.in-Gate.is ∙ ap GateCell (sym c.deref_mut-3.ensures.value))
       c.deref_mut-4.result.now (ap cell_of c.in-Registry.is ∙ ap RegistryCell (sym c.deref_mut-4.ensures.value))
       c.deref_mut-5.result.now (ap cell_of c.in-Stock.is ∙ ap StockCell (sym c.deref_mut-5.ensures.value))
-      c.deref_mut-6.result.now (ap cell_of c.in-Ledger.is ∙ ap LedgerCell (sym c.deref_mut-6.ensures.value));
+      c.deref_mut-6.result.now (ap cell_of c.in-Ledger.is ∙ ap LedgerCell (sym c.deref_mut-6.ensures.value)));
+  room = c.in_ok-reserve.ensures.ok;
 }
 
 pub returns-clause-made : goal.returns-clause-made
@@ -42,9 +44,13 @@ returns-clause-made c =
     (job_of c.deref-2.result.now) job (actor_of c.finish_for.new.actor)
     (subst (λ (x : Gate). MakesWay c.args.h.now c.args.new_at c.deref_mut.result.now c.make_way.new.from c.deref_mut-2.result.now c.make_way.new.to x (job_of c.deref-2.result.now) c.in_ok-made.made.value)
     (c.deref.ensures ∙ sym c.deref_mut-3.ensures.value) c.in_ok-made.ensures.made)
-    c.finish_for.ensures
+    (subst (λ (a : ActorValue). FinishesFor c.args.h.now c.args.gate_at c.deref_mut-3.result.now c.finish_for.new.gate c.deref_mut-4.result.now c.finish_for.new.registry c.deref_mut-5.result.now c.finish_for.new.stock c.deref_mut-6.result.now c.finish_for.new.ledger a (actor_of c.finish_for.new.actor))
+    (sym (with-room c.args.actor.now c.reserve.new.self c.reserve.ensures.cells)) c.finish_for.ensures)
 
 pub returns-in_err-made-clause-refused : goal.returns-in_err-made-clause-refused
 returns-in_err-made-clause-refused c =
     let k = c.in_err-made.ensures.refused in
-    as-err c.from_residual.result (ap (cell.Map c.in-Map.worker) (same-box c.in-Map.from c.deref_mut.ensures.value k.0) ∙ sym c.in-Map.is, ap (cell.Map c.in-Map-to.worker) (same-box c.in-Map-to.to c.deref_mut-2.ensures.value k.1) ∙ sym c.in-Map-to.is, sym c.in-Gate.is, refl, sym c.in-Registry.is, sym c.in-Stock.is, sym c.in-Ledger.is, refl)
+    as-err c.from_residual-in_err-made.result (ap (cell.Map c.in-Map.worker) (same-box c.in-Map.from c.deref_mut.ensures.value k.0) ∙ sym c.in-Map.is, ap (cell.Map c.in-Map-to.worker) (same-box c.in-Map-to.to c.deref_mut-2.ensures.value k.1) ∙ sym c.in-Map-to.is, sym c.in-Gate.is, refl, sym c.in-Registry.is, sym c.in-Stock.is, sym c.in-Ledger.is, sym (with-room c.args.actor.now c.reserve.new.self c.reserve.ensures.cells))
+
+pub returns-in_err-reserve-clause-refused : goal.returns-in_err-reserve-clause-refused
+returns-in_err-reserve-clause-refused c = as-err c.from_residual.result (refl, refl, refl, refl, refl, refl, refl, sym (with-room c.args.actor.now c.reserve.new.self c.reserve.ensures.cells))

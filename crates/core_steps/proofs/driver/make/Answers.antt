@@ -1,8 +1,8 @@
-use Rattle.std.proofs.{Common.{◌∙◌, ℕ, ◌<◌, List, Option, Some, ap, drop, is_some, length, map, refl, subst, sym}, lemmas.List.{length-set, take_at}}
-use Rattle.std.specs.Vec.{with_item, with_items}
-use Rattle.core_steps.specs.{Places.{others_held, row_of, things}, declared.step.Others.Others}
-use Rattle.core_steps.proofs.{Arms.{back-one, back-two, first-lent, held-one, held-two, one-within, others-lift, others-within, second-lent, two-apart}, Held.{actor-is, actor-there, asked, here}, Made.made}
-use Rattle.volap_cell.specs.{State.given, declared.cell.Cell.Cell, declared.state.State.State}
+use Rattle.std.proofs.{Common.{◌∙◌, ℕ, ◌<◌, Some, ap, refl, subst, sym}}
+use Rattle.std.specs.Vec.{with_item}
+use Rattle.core_steps.specs.{Places.{row_of}}
+use Rattle.core_steps.proofs.{Arms.{back-one, held-one, one-within}, Held.{actor-is, actor-there, asked, here}, Made.made}
+use Rattle.volap_cell.specs.{declared.state.State.State}
 use Rattle.core_steps.proofs.driver.make.Goals as goal
 
 pub index_mut-requires : goal.index_mut-requires
@@ -32,75 +32,10 @@ returns-in-One g c =
     r.result (g.S.CellStep.kind c.args.step) (g.S.CellStep.tells c.args.step) r.ensures.went r.ensures.told r.ensures.refused in
     record { further = done.further; told = done.told; spared = done.spared; sure = r.ensures.sure; same = done.same }
 
--- Two.
+-- More.
 
-pub run_two-requires : goal.run_two-requires
-run_two-requires g c =
-    let named = ap row_of (sym c.in-Two.is) ∙ c.places.ensures in
-    let out = c.deref_mut.ensures.value in
-    let is = held-two c.requires.sound c.requires.may named _ c.none-in-Two.result _ out (ap (λ (o : Others). map is_some (others_held o)) c.none-in-Two.ensures) tt (actor-is c.requires.sound c.requires.may _ _ c.index_mut.ensures.value c.lent-actor.ensures.value) in
-    record {
-      first = first-lent c.requires.sound c.requires.may named _ out;
-      second = second-lent c.requires.sound c.requires.may named _ out;
-      apart = two-apart c.requires.sound c.requires.may named;
-      fill = is.fill;
-      here = here c.requires.sound c.requires.may is;
-      asked = asked c.requires.sound c.requires.may is;
-    }
+pub make_two-requires : goal.make_two-requires
+make_two-requires g c = record { sound = c.requires.sound; may = c.requires.may; named = ap row_of (sym c.in-Two.is) ∙ c.places.ensures }
 
-pub returns-in-Two : goal.returns-in-Two
-returns-in-Two g c =
-    let named = ap row_of (sym c.in-Two.is) ∙ c.places.ensures in
-    let out = c.deref_mut.ensures.value in
-    let is = held-two c.requires.sound c.requires.may named _ c.none-in-Two.result _ out (ap (λ (o : Others). map is_some (others_held o)) c.none-in-Two.ensures) tt (actor-is c.requires.sound c.requires.may _ _ c.index_mut.ensures.value c.lent-actor.ensures.value) in
-    let r = c.run_two in
-    let cells = c.args.state.now.cells in
-    let ws = r.new.cells in
-    let now : State = record { cells = with_items cells ws; actors = with_item c.args.state.now.actors c.args.number (Some r.new.actor) } in
-    let filled = take_at ws (drop (length ws) cells.items) cells.len (ap (λ (l : List (Option Cell)). length l) r.ensures.cells ∙ length-set _ _ _ ∙ length-set _ _ _ ∙ c.deref_mut.ensures.len) in
-    let done = made c.requires.sound c.requires.may is now _ r.new.actor r.ensures.fill (filled ∙ r.ensures.cells ∙ back-two c.requires.sound c.requires.may named _ _ _ r.new.others out r.ensures.fill) refl
-    r.result (g.S.CellStep.kind c.args.step) (g.S.CellStep.tells c.args.step) r.ensures.went r.ensures.told r.ensures.refused in
-    record { further = done.further; told = done.told; spared = done.spared; sure = r.ensures.sure; same = done.same }
-
--- Many.
-
-pub lift-others-requires : goal.lift-others-requires
-lift-others-requires g c = record { there = others-lift c.requires.sound c.requires.may (ap row_of (sym c.in-Many.is) ∙ c.places.ensures) }
-
-pub run_two-made-requires : goal.run_two-made-requires
-run_two-made-requires g c =
-    let named = ap row_of (sym c.in-Many.is) ∙ c.places.ensures in
-    let out = c.deref_mut-in-Many.ensures.value ∙ c.lift-others.ensures.rest in
-    let is = held-two c.requires.sound c.requires.may named _ c.lift-others.result _ out c.lift-others.ensures.fill c.lift-others.ensures.stand (actor-is c.requires.sound c.requires.may _ _ c.index_mut.ensures.value c.lent-actor.ensures.value) in
-    record {
-      first = first-lent c.requires.sound c.requires.may named _ out;
-      second = second-lent c.requires.sound c.requires.may named _ out;
-      apart = two-apart c.requires.sound c.requires.may named;
-      fill = is.fill;
-      here = here c.requires.sound c.requires.may is;
-      asked = asked c.requires.sound c.requires.may is;
-    }
-
-pub put-requires : goal.put-requires
-put-requires g c =
-    let named = ap row_of (sym c.in-Many.is) ∙ c.places.ensures in
-    let cells = c.lift-others.new.cells in
-    let ws = c.run_two-made.new.cells in
-    let long = ap (λ (l : List (Option Cell)). length l) c.run_two-made.ensures.cells ∙ length-set _ _ _ ∙ length-set _ _ _ in
-    let filled = take_at ws (drop (length ws) cells.items) cells.len (long ∙ c.deref_mut-in-Many.ensures.len) in
-    record { within = others-within c.requires.sound c.requires.may named _ (with_items cells ws).items (c.deref_mut-in-Many.ensures.value ∙ c.lift-others.ensures.rest) (ap (λ (l : List (Option Cell)). length l) filled ∙ long) }
-
-pub returns-in-Many : goal.returns-in-Many
-returns-in-Many g c =
-    let named = ap row_of (sym c.in-Many.is) ∙ c.places.ensures in
-    let out = c.deref_mut-in-Many.ensures.value ∙ c.lift-others.ensures.rest in
-    let is = held-two c.requires.sound c.requires.may named _ c.lift-others.result _ out c.lift-others.ensures.fill c.lift-others.ensures.stand (actor-is c.requires.sound c.requires.may _ _ c.index_mut.ensures.value c.lent-actor.ensures.value) in
-    let r = c.run_two-made in
-    let cells = c.lift-others.new.cells in
-    let ws = r.new.cells in
-    let now : State = record { cells = c.put.new.cells; actors = with_item c.args.state.now.actors c.args.number (Some r.new.actor) } in
-    let filled = take_at ws (drop (length ws) cells.items) cells.len (ap (λ (l : List (Option Cell)). length l) r.ensures.cells ∙ length-set _ _ _ ∙ length-set _ _ _ ∙ c.deref_mut-in-Many.ensures.len) in
-    let done = made c.requires.sound c.requires.may is now _ r.new.actor r.ensures.fill
-    (c.put.ensures ∙ ap (λ (l : List (Option Cell)). given (things c.in-Many.rest (others_held r.new.others)) l) (filled ∙ r.ensures.cells) ∙ back-two c.requires.sound c.requires.may named _ _ _ r.new.others out r.ensures.fill) refl
-    r.result (g.S.CellStep.kind c.args.step) (g.S.CellStep.tells c.args.step) r.ensures.went r.ensures.told r.ensures.refused in
-    record { further = done.further; told = done.told; spared = done.spared; sure = r.ensures.sure; same = done.same }
+pub make_many-requires : goal.make_many-requires
+make_many-requires g c = record { sound = c.requires.sound; may = c.requires.may; named = ap row_of (sym c.in-Many.is) ∙ c.places.ensures }

@@ -1,7 +1,7 @@
 use Rattle.std.proofs.Common.{◌∙◌, ap, sym, subst}
 use Rattle.std.specs.Prelude.{⊤}
 use Rattle.core_due.specs.{Look.world_by, Parts.due_kind, Ready.CanDescend, Rows.{descent_of, entrance_of}, declared.parts.PartDue.PartDue}
-use Rattle.core_steps.specs.{Steps.IsFurther, Trees.{tree_asks, tree_places}}
+use Rattle.core_steps.specs.{Rows.{row_asks, row_places}, Steps.IsFurther}
 use Rattle.volap_cell.proofs.Outcomes.{on-ok}
 use Rattle.volap_cell.specs.declared.kind.Kind.{Kind}
 use Rattle.seeded_run.specs.Drives.{IsFound, MayGoOn}
@@ -15,7 +15,7 @@ make-requires-in-Enters-clause-may c =
     let n = c.args.number in
     let step = c.entrance-step.result in
     let may = subst (λ (due : PartDue). MayGoOn h state n due) c.in-Enters.is c.requires.may in
-    may-then state c.entrance-step.new.state c.entrance-step.ensures.cells c.entrance-step.ensures.actors h n (tree_places step) (tree_asks step h) (λ s w m. ⊤)
+    may-then state c.entrance-step.new.state c.entrance-step.ensures.cells c.entrance-step.ensures.actors h n (row_places step) (row_asks step h) (λ s w m. ⊤)
     (found-may h state n (λ a. entrance_of (world_by state.cells.items) a.purse c.in-Enters.map c.in-Enters.gate) step may c.entrance-step.ensures.step)
 
 pub make-requires-in-Descends-clause-may : goal.make-requires-in-Descends-clause-may
@@ -34,9 +34,4 @@ returns-in-Descends-clause-further c =
     let state = c.args.state.now in
     let n = c.args.number in
     let down = is-down h (world_by state.cells.items) state n c.in-Descends.block c.descent-step.result c.descent-step.ensures in
-    on-ok c.make-in-Descends.result c.make-in-Descends.ensures.further (λ made. subst (λ (k : Kind). IsFurther h k n state c.make-in-Descends.new.state) (down.0 ∙ sym (ap due_kind c.in-Descends.is)) made)
-
-pub returns-in-Descends-clause-sure : goal.returns-in-Descends-clause-sure
-returns-in-Descends-clause-sure c = λ sure.
-    let state = c.args.state.now in
-    c.make-in-Descends.ensures.sure (is-down c.args.h.now (world_by state.cells.items) state c.args.number c.in-Descends.block c.descent-step.result c.descent-step.ensures).1
+    on-ok c.make-in-Descends.result c.make-in-Descends.ensures.further (λ made. subst (λ (k : Kind). IsFurther h k n state c.make-in-Descends.new.state) (down ∙ sym (ap due_kind c.in-Descends.is)) made)

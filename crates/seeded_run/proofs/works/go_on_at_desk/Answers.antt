@@ -8,9 +8,8 @@ use Rattle.seeded_run.proofs.works.go_on_at_desk.Goals as goal
 pub make_instead-requires-clause-may : goal.make_instead-requires-clause-may
 make_instead-requires-clause-may c =
     let fails = may-fail _ c.make.result c.in-Err.field-0 c.in-Err.is c.make.ensures.sure in
-    let same = c.in-Err.ensures.same in
     subst (λ (x : Instead). StopsAtDesk c.args.h.now c.make.new.state c.args.number x) (sym c.instead_of-instead.ensures)
-    (desk-stops c.args.h.now c.args.state.now c.make.new.state c.args.number c.requires.sound same c.args.step fails c.requires.may (c.requires.instead c.make.new.state same).1)
+    (desk-stops c.args.h.now c.make.new.state c.args.number c.args.step fails (c.requires.instead c.make.new.state c.in-Err.ensures.same).1)
 
 pub returns-in-Ok : goal.returns-in-Ok
 returns-in-Ok c = record { made = book-made c.args.step c.args.h.now c.args.number c.args.state.now c.make.new.state c.in-Ok.ensures.further c.in-Ok.ensures.told }

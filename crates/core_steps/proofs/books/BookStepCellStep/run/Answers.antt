@@ -4,7 +4,7 @@ use Rattle.volap_cell.proofs.Outcomes.{on-ok}
 use Rattle.core_steps.proofs.books.BookStepCellStep.run.Goals as goal
 
 pub returns-in-Ack-clause-told : goal.returns-in-Ack-clause-told
-returns-in-Ack-clause-told c = told-three (book.Ack c.in-Ack.desk c.in-Ack.image) c.in-Ack.is c.lent-first.ensures.value c.lent-second.ensures.value c.args.others.now c.lent-in-Ack.ensures.value _ _ (ack-ends c.ack.ensures.made.does)
+returns-in-Ack-clause-told c = told-three (book.Ack c.in-Ack.desk c.in-Ack.image) c.in-Ack.is c.lent-first.ensures.value c.lent-second.ensures.value c.args.others.now c.lent.ensures.value _ _ (ack-ends c.ack.ensures.made.does)
 
 pub returns-in-Answer-clause-told : goal.returns-in-Answer-clause-told
 returns-in-Answer-clause-told c = told-two (book.Answer c.in-Answer.desk) c.in-Answer.is c.lent-first.ensures.value c.lent-second.ensures.value c.args.others.now _ _ (answer-ends c.answer.ensures.made.does)

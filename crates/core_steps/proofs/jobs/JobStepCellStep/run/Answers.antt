@@ -1,4 +1,4 @@
-use Rattle.std.proofs.Common.{[], ◌∷◌}
+use Rattle.std.proofs.Common.{[], ◌∷◌, refl}
 use Rattle.core_steps.proofs.JobMade.{in-place, seven-went}
 use Rattle.core_steps.specs.declared.jobs.JobStep.TheVariants as job
 use Rattle.volap_cell.specs.{Cells.cell_of, World.change}
@@ -18,5 +18,13 @@ returns-in-FinishMove-clause-went c = on-ok c.finish_move.result c.finish_move.e
     c.lent-in-FinishMove.ensures.value c.lent-in-FinishMove-2.ensures.value c.lent-in-FinishMove-3.ensures.value c.lent-in-FinishMove-4.ensures.value c.lent-in-FinishMove-5.ensures.value c.lent-in-FinishMove-6.ensures.value c.lent-in-FinishMove-7.ensures.value
     (record {
       makes = in-place (λ r s l. change c.in-FinishMove.from (cell_of c.lent-in-FinishMove.result.now) (cell_of c.finish_move.new.from) ∷ change c.in-FinishMove.to (cell_of c.lent-in-FinishMove-2.result.now) (cell_of c.finish_move.new.to) ∷ change c.in-FinishMove.gate (cell_of c.lent-in-FinishMove-3.result.now) (cell_of c.finish_move.new.gate) ∷ change c.in-FinishMove.new (cell_of c.lent-in-FinishMove-4.result.now) (cell_of c.finish_move.new.new) ∷ change r (cell_of c.lent-in-FinishMove-5.result.now) (cell_of c.finish_move.new.registry) ∷ change s (cell_of c.lent-in-FinishMove-6.result.now) (cell_of c.finish_move.new.stock) ∷ change l (cell_of c.lent-in-FinishMove-7.result.now) (cell_of c.finish_move.new.ledger) ∷ []) c.registry_place-in-FinishMove.ensures c.stock_place-in-FinishMove.ensures c.ledger_place-in-FinishMove.ensures made;
+      sight = λ s w n sees. tt;
+    }))
+
+pub returns-in-FinishHere-clause-went : goal.returns-in-FinishHere-clause-went
+returns-in-FinishHere-clause-went c = on-ok c.finish_here.result c.finish_here.ensures.made (λ made. seven-went (job.FinishHere c.in-FinishHere.map c.in-FinishHere.gate c.in-FinishHere.new) c.in-FinishHere.is
+    c.lent-in-FinishHere.ensures.value c.lent-in-FinishHere-2.ensures.value c.lent-in-FinishHere-3.ensures.value c.lent-in-FinishHere-4.ensures.value c.lent-in-FinishHere-5.ensures.value c.lent-in-FinishHere-6.ensures.value refl
+    (record {
+      makes = in-place (λ r s l. change c.in-FinishHere.map (cell_of c.lent-in-FinishHere.result.now) (cell_of c.finish_here.new.table) ∷ change c.in-FinishHere.gate (cell_of c.lent-in-FinishHere-2.result.now) (cell_of c.finish_here.new.gate) ∷ change c.in-FinishHere.new (cell_of c.lent-in-FinishHere-3.result.now) (cell_of c.finish_here.new.new) ∷ change r (cell_of c.lent-in-FinishHere-4.result.now) (cell_of c.finish_here.new.registry) ∷ change s (cell_of c.lent-in-FinishHere-5.result.now) (cell_of c.finish_here.new.stock) ∷ change l (cell_of c.lent-in-FinishHere-6.result.now) (cell_of c.finish_here.new.ledger) ∷ []) c.registry_place-in-FinishHere.ensures c.stock_place-in-FinishHere.ensures c.ledger_place-in-FinishHere.ensures made;
       sight = λ s w n sees. tt;
     }))

@@ -1,6 +1,6 @@
 use Rattle.std.proofs.Common.{arith, subst, sym}
 use Rattle.seeded_run.specs.Machine.{HoldsNow, IsDueNow, IsDueStep}
-use Rattle.seeded_run.proofs.{Begun.begins-now, Goings.{hand-now, part-now, work-now}}
+use Rattle.seeded_run.proofs.{Begun.begins-now, Goings.{hand-now, part-now, reuse-now, work-now}}
 use Rattle.seeded_run.proofs.machine.Running.kind_of.Goals as goal
 
 pub kind_begun-requires-clause-begins : goal.kind_begun-requires-clause-begins
@@ -15,6 +15,12 @@ unfolding HoldsNow
 returns-in-Takes c =
     let m = c.args.self.now in
     record { due = hand-now m c.requires.holds.kept c.args.actor c.in-Takes.worker (subst (IsDueStep m c.args.actor) c.in-Takes.is c.requires.due) }
+
+pub returns-in-Reuses : goal.returns-in-Reuses
+unfolding HoldsNow
+returns-in-Reuses c =
+    let m = c.args.self.now in
+    record { due = reuse-now m c.requires.holds.kept c.args.actor c.in-Reuses.field-0 (subst (IsDueStep m c.args.actor) c.in-Reuses.is c.requires.due) }
 
 pub returns-in-AtPart : goal.returns-in-AtPart
 unfolding HoldsNow

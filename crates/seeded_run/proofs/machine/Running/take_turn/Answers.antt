@@ -11,6 +11,9 @@ begin-requires-clause-begins c =
 pub take_part-requires-clause-due : goal.take_part-requires-clause-due
 take_part-requires-clause-due c = subst (IsDueStep c.args.self.now c.args.number) c.in-Takes.is c.requires.due
 
+pub reuse-requires-clause-due : goal.reuse-requires-clause-due
+reuse-requires-clause-due c = subst (IsDueStep c.args.self.now c.args.number) c.in-Reuses.is c.requires.due
+
 pub go_on_at_part-requires-clause-due : goal.go_on_at_part-requires-clause-due
 go_on_at_part-requires-clause-due c = subst (IsDueStep c.args.self.now c.args.number) c.in-AtPart.is c.requires.due
 
