@@ -4,8 +4,7 @@ use Rattle.std.specs.Prelude.{ℕ, ◌≡◌, ◌+◌, ◌^◌, ◌<◌, ◌==�
 use Rattle.balancer.specs.Turn.{rows_of_all}
 use Rattle.mapping_table.specs.declared.place.Where.TheVariants as where_is
 use Rattle.shard_plan.specs.{Balancing.plan, declared.action.Action.Action, declared.action.Load.Load}
-use Rattle.shard_store.specs.declared.gate.Gate.{Gate}
-use Rattle.volap_cell.specs.{AdminKinds.rows_at, Cells.{CellValue, GateCell, MapOf, tag_of, where_in}, ImageKinds.doing, Planning.next_job, Values.{ActorValue, JobValue}, declared.command.Balance.Balance, declared.command.Command.Command}
+use Rattle.volap_cell.specs.{Cells.{CellValue, MapOf, tag_of, where_in}, ImageKinds.doing, Planning.next_job, Values.{ActorValue, JobValue}, declared.command.Balance.Balance, declared.command.Command.Command}
 use Rattle.volap_cell.specs.declared.command.Work.TheVariants as work_is
 
 -- the actor is at a balance that has a load to read, and its worker's table leads to the gate that is held; so many workers there are
@@ -18,12 +17,6 @@ pub record CanReadLoad (workers : ℕ) (map : CellValue) (gate_at : ℕ) (a : Ac
   pub map_is : tag_of map ≡ MapOf load.worker
   pub leads : where_in map load.shard ≡ Some (where_is.Gate gate_at)
   pub workers_are : workers ≡ a.setting.workers
-
--- the cell has a gate with not too many rows
-pub record HasFewRows (cell : CellValue) : Type 0 where
-  pub gate : Gate
-  pub is : cell ≡ GateCell gate
-  pub few : rows_at gate < 2 ^ 32
 
 -- the loads of a balance, when so many rows were read for the next one
 abbrev pub loads_read : Balance → Load → ℕ → List Load

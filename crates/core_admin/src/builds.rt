@@ -17,7 +17,9 @@ use row_ledger::{Event, How, Ledger};
 use std::alloc::Global;
 use std::mem;
 use tree_shape::{collect_laws, frame_law};
-use volap_cell::{Actor, Building, Cell, Command, Job, Stage, Unbuilt, Work};
+use volap_cell::{
+    Actor, Building, Cell, Command, Job, Stage, Unbuilt, Work, ledger_in, lent, stock_in, there,
+};
 
 /// Puts the last block of the actor's job that is not in its cell yet there. What the cell had goes. Takes no
 /// memory; the allocator is that of the list of blocks.
@@ -29,9 +31,7 @@ pub fn build_block(alloc: Global, h: &Hierarchy, at: u32, cell: &mut Cell, actor
     let _ = h;
     frame_law();
     collect_laws();
-    let Some(job) = &mut actor.job else {
-        unreachable!()
-    };
+    let job = lent(&mut actor.job);
     build_next(alloc, job, cell);
 }
 
@@ -89,18 +89,10 @@ pub fn postpone(
         (actor_of actor.old) (actor_of actor.new) }
 {
     let _ = h;
-    let Cell::Stock(stock) = stock else {
-        unreachable!()
-    };
-    let Cell::Ledger(ledger) = ledger else {
-        unreachable!()
-    };
-    let Some(command) = &actor.command else {
-        unreachable!()
-    };
-    let Some(job) = &mut actor.job else {
-        unreachable!()
-    };
+    let stock = stock_in(stock);
+    let ledger = ledger_in(ledger);
+    let command = there(&actor.command);
+    let job = lent(&mut actor.job);
     let planned = plans(&command.work);
     note_given_up(ledger, planned, command.of, job.shard);
     give_all(stock, &mut actor.purse, job);

@@ -18,7 +18,7 @@ use shard_store::{CellList, Gate, RowList};
 use std::alloc::AllocError;
 use std::mem;
 use tree_shape::collect_laws;
-use volap_cell::{Actor, Cell, Collecting, Job, Stage};
+use volap_cell::{Actor, Cell, Collecting, Job, Stage, block_seen, gate_seen, lent};
 
 /// Reads the block that the actor's job noted last: collects its rows, and notes all its entries and its
 /// right link. The room for these is made first; where memory is wanting for it, nothing changes.
@@ -36,12 +36,8 @@ pub fn collect_block(
     let _ = h;
     let _ = at;
     collect_laws();
-    let Some(job) = &mut actor.job else {
-        unreachable!()
-    };
-    let Cell::Block(block) = &*cell else {
-        unreachable!()
-    };
+    let job = lent(&mut actor.job);
+    let block = block_seen(cell);
     read_block(block, job)
 }
 
@@ -90,9 +86,7 @@ fn read_into(
     todo.reserve(MOST_NOTED)?;
     read.reserve(1)?;
     rows.reserve(COLUMN_PLACES)?;
-    let Some(item) = todo.pop() else {
-        unreachable!()
-    };
+    let item = todo.pop().unwrap();
     read.push_reserved(item.cell);
     note_entries(block.entries(), todo);
     note_right(block, item.stamp, todo);
@@ -188,12 +182,8 @@ pub fn collect_row(
     let _ = h;
     let _ = gate_at;
     collect_laws();
-    let Some(job) = &mut actor.job else {
-        unreachable!()
-    };
-    let Cell::Gate(gate) = &*gate else {
-        unreachable!()
-    };
+    let job = lent(&mut actor.job);
+    let gate = gate_seen(gate);
     take_row(gate, job)
 }
 

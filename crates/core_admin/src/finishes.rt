@@ -25,7 +25,10 @@ use shard_store::{CellList, Gate, Phase};
 use std::alloc::{AllocError, Global};
 use std::mem;
 use tree_shape::{collect_laws, frame_law};
-use volap_cell::{Actor, Balance, BuiltTree, Cell, Command, Job, Stage, Work};
+use volap_cell::{
+    Actor, Balance, BuiltTree, Cell, Command, Job, Stage, Work, gate_in, ledger_in, lent, map_in,
+    registry_in, stock_in, there,
+};
 
 /// Ends the move of the actor's shard to another worker: the new tree has a gate of its own there, with the rows
 /// that came to the queue after the shard was frozen, and the old gate is gone. A balance goes on to its next
@@ -67,27 +70,13 @@ pub fn finish_move(
     frame_law();
     collect_laws();
     actor.gone_gates.reserve()?;
-    let Cell::Map { map: from, .. } = from else {
-        unreachable!()
-    };
-    let Cell::Map { map: to, .. } = to else {
-        unreachable!()
-    };
-    let Cell::Gate(gate) = gate else {
-        unreachable!()
-    };
-    let Cell::Registry(registry) = registry else {
-        unreachable!()
-    };
-    let Cell::Stock(stock) = stock else {
-        unreachable!()
-    };
-    let Cell::Ledger(ledger) = ledger else {
-        unreachable!()
-    };
-    let Some(job) = &actor.job else {
-        unreachable!()
-    };
+    let from = map_in(from);
+    let to = map_in(to);
+    let gate = gate_in(gate);
+    let registry = registry_in(registry);
+    let stock = stock_in(stock);
+    let ledger = ledger_in(ledger);
+    let job = there(&actor.job);
     let made = make_way(alloc, h, new_at, from, to, gate, job)?;
     put_gate(new, made);
     finish_for(alloc, h, gate_at, gate, registry, stock, ledger, actor);
@@ -130,24 +119,12 @@ pub fn finish_here(
     frame_law();
     collect_laws();
     actor.gone_gates.reserve()?;
-    let Cell::Map { map: table, .. } = table else {
-        unreachable!()
-    };
-    let Cell::Gate(gate) = gate else {
-        unreachable!()
-    };
-    let Cell::Registry(registry) = registry else {
-        unreachable!()
-    };
-    let Cell::Stock(stock) = stock else {
-        unreachable!()
-    };
-    let Cell::Ledger(ledger) = ledger else {
-        unreachable!()
-    };
-    let Some(job) = &actor.job else {
-        unreachable!()
-    };
+    let table = map_in(table);
+    let gate = gate_in(gate);
+    let registry = registry_in(registry);
+    let stock = stock_in(stock);
+    let ledger = ledger_in(ledger);
+    let job = there(&actor.job);
     let made = make_way_here(alloc, h, new_at, table, gate, job)?;
     put_gate(new, made);
     finish_for(alloc, h, gate_at, gate, registry, stock, ledger, actor);
@@ -169,7 +146,7 @@ fn make_way(
     ensures made { IfOk result (λ made. MakesWay h.now new_at from.old from.new to.old to.new gate.now (job_of job.now) made.value) }
     ensures refused { OnErr result ((from.new ≡ from.old) × (to.new ≡ to.old)) }
 {
-    let Some(worker) = job.to else { unreachable!() };
+    let worker = job.to.unwrap();
     let made = next_gate(alloc, h, gate, job)?;
     to.set(job.shard, Where::Gate(new_at))?;
     lead_on(from, job.shard, worker);
@@ -292,13 +269,9 @@ fn finish_for(
     requires room { 0 < actor.old.gone_gates.room }
     ensures { FinishesFor h.now gate_at gate.old gate.new registry.old registry.new stock.old stock.new ledger.old ledger.new (actor_of actor.old) (actor_of actor.new) }
 {
-    let Some(command) = &actor.command else {
-        unreachable!()
-    };
-    let Some(job) = &mut actor.job else {
-        unreachable!()
-    };
-    let Some(worker) = job.to else { unreachable!() };
+    let command = there(&actor.command);
+    let job = lent(&mut actor.job);
+    let worker = job.to.unwrap();
     let of = command.of;
     let shard = job.shard;
     let planned = plans(&command.work);

@@ -18,7 +18,9 @@ use shard_store::{CellList, Gate, RowList};
 use std::alloc::{AllocError, Global};
 use std::mem;
 use tree_shape::{collect_laws, tree_laws};
-use volap_cell::{Actor, Cell, Collecting, Frozen, Job, NoteRoom, Stage};
+use volap_cell::{
+    Actor, Cell, Collecting, Frozen, Job, NoteRoom, Stage, gate_in, gate_seen, lent, stock_in,
+};
 
 /// So many stamps there are.
 const STAMPS: u64 = 1 << 63;
@@ -51,15 +53,9 @@ pub fn freeze(
     let _ = map;
     let _ = stock_at;
     tree_laws();
-    let Some(job) = &mut actor.job else {
-        unreachable!()
-    };
-    let Cell::Gate(gate) = gate else {
-        unreachable!()
-    };
-    let Cell::Stock(stock) = stock else {
-        unreachable!()
-    };
+    let job = lent(&mut actor.job);
+    let gate = gate_in(gate);
+    let stock = stock_in(stock);
     freeze_for(alloc, h, gate_at, gate, stock, &mut actor.purse, job)
 }
 
@@ -188,12 +184,8 @@ pub fn drained(alloc: Global, h: &Hierarchy, gate_at: u32, gate: &mut Cell, acto
     let _ = h;
     let _ = gate_at;
     collect_laws();
-    let Some(job) = &mut actor.job else {
-        unreachable!()
-    };
-    let Cell::Gate(gate) = &*gate else {
-        unreachable!()
-    };
+    let job = lent(&mut actor.job);
+    let gate = gate_seen(gate);
     begin_collecting(alloc, gate, job);
 }
 

@@ -1,12 +1,11 @@
 //! The step that reads the next load of a balance, and plans behind the last one.
 ghost use Rattle.std.specs.Prelude.{◌≡◌, ◌<◌, ◌≤◌, ◌^◌, [], ◌∷◌, None, Some, length, slice_get, slice_set, option_map, vec_capacity};
 ghost use Rattle.balancer.specs.Turn.{rows_of_all};
-ghost use Rattle.core_admin.specs.LoadDue.{CanNote, CanRead, CanReadLoad, HasFewRows, NotesLoad, ReadsIn};
+ghost use Rattle.core_admin.specs.LoadDue.{CanNote, CanRead, CanReadLoad, NotesLoad, ReadsIn};
 ghost use Rattle.shard_plan.specs.Balancing.{plan};
 ghost use Rattle.shard_plan.specs.declared.action.Load.{Load};
-ghost use Rattle.shard_store.specs.declared.gate.Gate.{Gate};
 ghost use Rattle.volap_cell.specs.AdminKinds.{rows_at};
-ghost use Rattle.volap_cell.specs.Cells.{GateCell, cell_of};
+ghost use Rattle.volap_cell.specs.Cells.{cell_of};
 ghost use Rattle.volap_cell.specs.Planning.{job_for, next_job, worker_among};
 ghost use Rattle.volap_cell.specs.Steps.{IsHere, Makes};
 ghost use Rattle.volap_cell.specs.Values.{actor_of, job_of};
@@ -16,10 +15,11 @@ ghost use Rattle.volap_cell.specs.declared.kind.Kind.TheVariants.{LookUp};
 use balancer::plan_into;
 use dim_hierarchy::{Hierarchy, Items};
 use shard_plan::{Action, Load};
+use shard_store::Gate;
 use std::alloc::Global;
 use std::mem;
 use tree_shape::tree_laws;
-use volap_cell::{ActionPlan, Actor, Balance, Cell, Command, Job, Stage, Work};
+use volap_cell::{ActionPlan, Actor, Balance, Cell, Command, Job, Stage, Work, gate_seen, lent};
 
 /// Reads the next load of the actor's balance: the rows of tree and queue of the gate, to which the table of
 /// the load's worker leads. After the last load the actions are planned, for so many workers, and the job of
@@ -46,21 +46,16 @@ pub fn read_load(
     let _ = map;
     let _ = gate_at;
     tree_laws();
-    let rows = rows_in(gate);
-    let Some(command) = &mut actor.command else {
-        unreachable!()
-    };
+    let rows = rows_in(gate_seen(gate));
+    let command = lent(&mut actor.command);
     actor.job = read_in(alloc, command, rows, workers);
 }
 
-/// How many rows the gate in a cell has in its tree and its queue.
-fn rows_in(cell: &Cell) -> u64
-    requires gate { HasFewRows (cell_of cell.now) }
-    ensures value { (gate : Gate) → cell_of cell.now ≡ GateCell gate → result ≡ rows_at gate }
+/// How many rows a gate has in its tree and its queue.
+fn rows_in(gate: &Gate) -> u64
+    requires few { rows_at gate.now < 2 ^ 32 }
+    ensures value { result ≡ rows_at gate.now }
 {
-    let Cell::Gate(gate) = cell else {
-        unreachable!()
-    };
     gate.agg.count() + gate.queue.rows.len() as u64
 }
 

@@ -12,7 +12,7 @@ use shard_store::{CellList, Gate};
 use std::alloc::Global;
 use std::mem;
 use tree_shape::frame_law;
-use volap_cell::{Actor, Cell};
+use volap_cell::{Actor, Cell, gate_in, stock_in};
 
 /// Uses the cell again of the block that stands last in the list of a gate that is gone, and to which no query is
 /// pinned: it is the stock's. Takes no memory; the allocator is that of the list.
@@ -36,12 +36,8 @@ pub fn reuse_block(
     let _ = h;
     let _ = actor;
     frame_law();
-    let Cell::Gate(gate) = gate else {
-        unreachable!()
-    };
-    let Cell::Stock(stock) = stock else {
-        unreachable!()
-    };
+    let gate = gate_in(gate);
+    let stock = stock_in(stock);
     shorten(alloc, gate);
     free(block);
     stock.put(at);
@@ -65,9 +61,7 @@ pub fn reuse_gate(
 {
     let _ = h;
     frame_law();
-    let Cell::Stock(stock) = stock else {
-        unreachable!()
-    };
+    let stock = stock_in(stock);
     free(gate);
     stock.put(gate_at);
     actor.gone_gates.take_off(gate_at);

@@ -24,7 +24,10 @@ use server_image::Registry;
 use shard_store::Gate;
 use std::alloc::{AllocError, Global};
 use tree_shape::{collect_laws, frame_law, tree_laws};
-use volap_cell::{Actor, BuiltTree, Cell, Job, Stage};
+use volap_cell::{
+    Actor, BuiltTree, Cell, Job, Stage, gate_in, ledger_in, lent, map_in, registry_in, stock_in,
+    there,
+};
 
 /// The highest id with which two ids may begin: the stock's next id behind them is a `u32` too.
 const LAST_PAIR: u32 = u32::MAX - 2;
@@ -71,24 +74,12 @@ pub fn finish_split(
     collect_laws();
     tree_laws();
     actor.gone_gates.reserve()?;
-    let Cell::Map { map: table, .. } = table else {
-        unreachable!()
-    };
-    let Cell::Gate(gate) = gate else {
-        unreachable!()
-    };
-    let Cell::Registry(registry) = registry else {
-        unreachable!()
-    };
-    let Cell::Stock(stock) = stock else {
-        unreachable!()
-    };
-    let Cell::Ledger(ledger) = ledger else {
-        unreachable!()
-    };
-    let Some(job) = &actor.job else {
-        unreachable!()
-    };
+    let table = map_in(table);
+    let gate = gate_in(gate);
+    let registry = registry_in(registry);
+    let stock = stock_in(stock);
+    let ledger = ledger_in(ledger);
+    let job = there(&actor.job);
     let first = next_ids(stock)?;
     let (one, two) = divide(
         alloc, h, left_at, right_at, table, gate, registry, first, job,
@@ -119,12 +110,8 @@ fn divide(
     let Stage::Building(building) = &job.stage else {
         unreachable!()
     };
-    let Some(plane) = &building.frozen.plane else {
-        unreachable!()
-    };
-    let Some(tree) = &building.right else {
-        unreachable!()
-    };
+    let plane = there(&building.frozen.plane);
+    let tree = there(&building.right);
     let left = child_gate(alloc, h, plane, true, first, &building.left, gate)?;
     let right = child_gate(alloc, h, plane, false, first + 1, tree, gate)?;
     let left_box = box_of(h, &left);
@@ -246,12 +233,8 @@ fn finish_divided(
     requires room { 0 < actor.old.gone_gates.room }
     ensures { FinishesDivided h.now gate_at gate.old gate.new stock.old stock.new ledger.old ledger.new (actor_of actor.old) (actor_of actor.new) }
 {
-    let Some(command) = &actor.command else {
-        unreachable!()
-    };
-    let Some(job) = &mut actor.job else {
-        unreachable!()
-    };
+    let command = there(&actor.command);
+    let job = lent(&mut actor.job);
     let of = command.of;
     let shard = job.shard;
     let planned = plans(&command.work);

@@ -27,7 +27,7 @@ use shard_plan::{cells_for, parts_fit};
 use shard_store::CellList;
 use std::alloc::{AllocError, Global};
 use tree_shape::collect_laws;
-use volap_cell::{Actor, Building, BuiltTree, Cell, Collecting, Job, Stage, Unbuilt};
+use volap_cell::{Actor, Building, BuiltTree, Cell, Collecting, Job, Stage, Unbuilt, lent};
 
 /// With all rows collected, makes the new trees of them, with cells of the purse: one for each side of the
 /// plane, or for a move one of all rows, which pass through the transfer text. The memory that the trees
@@ -48,9 +48,7 @@ pub fn build_trees(
     let _ = gate;
     collect_laws();
     parts_fit();
-    let Some(job) = &mut actor.job else {
-        unreachable!()
-    };
+    let job = lent(&mut actor.job);
     build_for(alloc, h, &mut actor.purse, job)
 }
 

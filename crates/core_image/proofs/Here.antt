@@ -2,7 +2,6 @@
 pub mod Ready
 pub mod Routed
 pub mod AskedHere
-pub mod Tagged
 pub mod AnsweredHere
 pub mod SyncedHere
 pub mod Telling

@@ -12,7 +12,7 @@ use dim_hierarchy::{Coord, Hierarchy};
 use query_router::{Desk, Part, PartState};
 use row_ledger::{Event, Ledger};
 use server_image::Image;
-use volap_cell::{Actor, Cell, Work};
+use volap_cell::{Actor, Cell, Work, desk_in, image_in, ledger_in, there};
 
 /// Acknowledges the actor's insert, whose part is placed: the desk is cleared, and the image grows
 /// by the row. Takes no memory.
@@ -35,18 +35,10 @@ pub fn ack(
         ∷ change ledger_at (cell_of ledger.old) (cell_of ledger.new) ∷ [])
         (actor_of actor.old) (actor_of actor.new) }
 {
-    let Cell::Desk { desk, .. } = desk else {
-        unreachable!()
-    };
-    let Cell::Image { image, .. } = image else {
-        unreachable!()
-    };
-    let Cell::Ledger(ledger) = ledger else {
-        unreachable!()
-    };
-    let Some(command) = &actor.command else {
-        unreachable!()
-    };
+    let desk = desk_in(desk);
+    let image = image_in(image);
+    let ledger = ledger_in(ledger);
+    let command = there(&actor.command);
     let Work::Insert { row, .. } = &command.work else {
         unreachable!()
     };

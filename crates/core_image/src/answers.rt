@@ -13,7 +13,7 @@ use dim_hierarchy::Hierarchy;
 use measure_agg::Agg;
 use query_router::{Desk, Verdict};
 use row_ledger::{Event, Ledger};
-use volap_cell::{Actor, Cell};
+use volap_cell::{Actor, Cell, desk_in, ledger_in, there};
 
 /// Answers the actor's query with what its parts have counted together, and clears its desk. Takes no
 /// memory.
@@ -32,15 +32,9 @@ pub fn answer(
         (actor_of actor.old) (actor_of actor.new) }
 {
     let _ = h;
-    let Cell::Desk { desk, .. } = desk else {
-        unreachable!()
-    };
-    let Cell::Ledger(ledger) = ledger else {
-        unreachable!()
-    };
-    let Some(command) = &actor.command else {
-        unreachable!()
-    };
+    let desk = desk_in(desk);
+    let ledger = ledger_in(ledger);
+    let command = there(&actor.command);
     give(desk, ledger, command.of);
     actor.command = None;
     actor.seen = ledger.len();
@@ -64,7 +58,7 @@ fn total(desk: &Desk) -> Agg
     ensures { verdict_of desk.now.parts ≡ Some (Sum result) }
 {
     let come = desk.answer();
-    let Some(verdict) = &come else { unreachable!() };
+    let verdict = there(&come);
     sum_in(verdict)
 }
 

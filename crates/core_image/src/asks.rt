@@ -16,7 +16,9 @@ use row_ledger::{Call, Class, Subject};
 use server_image::Registry;
 use shard_plan::{Action, Load};
 use std::alloc::{AllocError, Global};
-use volap_cell::{ActionPlan, Actor, Balance, Cell, Command, Job, Stage, Work};
+use volap_cell::{
+    ActionPlan, Actor, Balance, Cell, Command, Job, Stage, Work, ledger_in, registry_in,
+};
 
 /// Begins a command that asks the registry what stands: a split, a move, a balance, or the page of
 /// a tree. A split or a move has its job with it where its shard stands, and the worker to which it
@@ -42,12 +44,8 @@ pub fn note_asking(
     ensures refused { OnErr result ((registry.new ≡ registry.old) × (ledger.new ≡ ledger.old) × (actor_of actor.new ≡ actor_of actor.old)) }
 {
     let _ = h;
-    let Cell::Registry(registry) = registry else {
-        unreachable!()
-    };
-    let Cell::Ledger(ledger) = ledger else {
-        unreachable!()
-    };
+    let registry = registry_in(registry);
+    let ledger = ledger_in(ledger);
     let Begun { work, job } = begin(alloc, registry, call.class(), workers)?;
     let of = ledger.len();
     push_called(ledger, actor.number, call, &work)?;

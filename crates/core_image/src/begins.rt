@@ -13,7 +13,7 @@ use dim_hierarchy::{Coord, Hierarchy, Measures, Row};
 use row_ledger::{Event, Ledger};
 use server_image::Image;
 use std::alloc::{AllocError, Global};
-use volap_cell::{Actor, Cell, Command, Work};
+use volap_cell::{Actor, Cell, Command, Work, image_in, ledger_in, owner_in};
 
 /// Begins an insert of a row at this coordinate. Its number is its place in the history, the image
 /// owes an acknowledgement more, and the ledger promises the insert's end. Room for all of it is
@@ -39,18 +39,15 @@ pub fn begin_insert(
 {
     let _ = alloc;
     let _ = h;
-    let Cell::Image { server, image } = image else {
-        unreachable!()
-    };
-    let Cell::Ledger(ledger) = ledger else {
-        unreachable!()
-    };
+    let server = owner_in(image);
+    let image = image_in(image);
+    let ledger = ledger_in(ledger);
     let row = Row {
         no: ledger.len(),
         at,
         measures,
     };
-    open(image, ledger, actor.number, *server, &row)?;
+    open(image, ledger, actor.number, server, &row)?;
     actor.command = Some(Command {
         of: row.no,
         work: Work::Insert { row, routed: false },

@@ -15,7 +15,7 @@ use crate::owing::owed;
 use dim_hierarchy::Hierarchy;
 use row_ledger::{Call, Class, Event, Ledger};
 use std::alloc::AllocError;
-use volap_cell::{Actor, Cell, Command, Work};
+use volap_cell::{Actor, Cell, Command, Work, ledger_in};
 
 /// Begins a command that asks nothing of the registry: a pull, a barrier, a settle, or a page of
 /// shards or of an audit. Room for all that it may still push is taken first, of the ledger's
@@ -34,9 +34,7 @@ pub fn note_called(
     ensures refused { OnErr result ((ledger.new ≡ ledger.old) × (actor_of actor.new ≡ actor_of actor.old)) }
 {
     let _ = h;
-    let Cell::Ledger(ledger) = ledger else {
-        unreachable!()
-    };
+    let ledger = ledger_in(ledger);
     let work = begun(call.class());
     let of = ledger.len();
     push_called(ledger, actor.number, call, &work)?;

@@ -9,7 +9,7 @@ ghost use Rattle.volap_cell.specs.declared.kind.Kind.TheVariants.{Note};
 
 use dim_hierarchy::Hierarchy;
 use query_router::Desk;
-use volap_cell::{Actor, Cell};
+use volap_cell::{Actor, Cell, desk_in};
 
 /// Counts the actor in at the desk of its server where it comes, and out where it goes. Takes no
 /// memory.
@@ -19,9 +19,7 @@ pub fn count_session(h: &Hierarchy, desk_at: u32, desk: &mut Cell, actor: &mut A
     ensures made { Makes h.now Note (change desk_at (cell_of desk.old) (cell_of desk.new) ∷ []) (actor_of actor.old) (actor_of actor.new) }
 {
     let _ = h;
-    let Cell::Desk { desk, .. } = desk else {
-        unreachable!()
-    };
+    let desk = desk_in(desk);
     count(desk, come);
     actor.counted = come;
 }

@@ -10,7 +10,7 @@ ghost use Rattle.volap_cell.specs.declared.kind.Kind.TheVariants.{Note};
 use crate::owing::owed;
 use dim_hierarchy::Hierarchy;
 use row_ledger::{Event, How, Ledger};
-use volap_cell::{Actor, Cell};
+use volap_cell::{Actor, Cell, ledger_in, there};
 
 /// Ends the actor's command that is no insert and no query, and its job where it has one. The
 /// promises that it did not need are given back. Takes no memory.
@@ -21,12 +21,8 @@ pub fn note_ended(h: &Hierarchy, ledger_at: u32, ledger: &mut Cell, actor: &mut 
     ensures over { (actor_of actor.new).command ≡ None }
 {
     let _ = h;
-    let Cell::Ledger(ledger) = ledger else {
-        unreachable!()
-    };
-    let Some(command) = &actor.command else {
-        unreachable!()
-    };
+    let ledger = ledger_in(ledger);
+    let command = there(&actor.command);
     push_ended(ledger, command.of, how, owed(&command.work));
     actor.command = None;
     actor.job = None;

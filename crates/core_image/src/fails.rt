@@ -9,7 +9,7 @@ ghost use Rattle.volap_cell.specs.declared.kind.Kind.TheVariants.{Note};
 
 use dim_hierarchy::Hierarchy;
 use row_ledger::Event;
-use volap_cell::{Actor, Cell};
+use volap_cell::{Actor, Cell, desk_in, image_in, ledger_in, there};
 
 /// Ends the actor's insert for want of memory, before a part for it was routed. The desk is not
 /// asked: another session's command may stand there. Takes no memory.
@@ -28,15 +28,9 @@ pub fn fail_unrouted(
         (actor_of actor.old) (actor_of actor.new) }
 {
     let _ = h;
-    let Cell::Image { image, .. } = image else {
-        unreachable!()
-    };
-    let Cell::Ledger(ledger) = ledger else {
-        unreachable!()
-    };
-    let Some(command) = &actor.command else {
-        unreachable!()
-    };
+    let image = image_in(image);
+    let ledger = ledger_in(ledger);
+    let command = there(&actor.command);
     image.forgo();
     ledger.push(Event::Failed { of: command.of });
     actor.command = None;
@@ -65,18 +59,10 @@ pub fn fail_routed(
         (actor_of actor.old) (actor_of actor.new) }
 {
     let _ = h;
-    let Cell::Desk { desk, .. } = desk else {
-        unreachable!()
-    };
-    let Cell::Image { image, .. } = image else {
-        unreachable!()
-    };
-    let Cell::Ledger(ledger) = ledger else {
-        unreachable!()
-    };
-    let Some(command) = &actor.command else {
-        unreachable!()
-    };
+    let desk = desk_in(desk);
+    let image = image_in(image);
+    let ledger = ledger_in(ledger);
+    let command = there(&actor.command);
     desk.clear();
     image.forgo();
     ledger.push(Event::Failed { of: command.of });
@@ -101,15 +87,9 @@ pub fn fail_query(
         (actor_of actor.old) (actor_of actor.new) }
 {
     let _ = h;
-    let Cell::Desk { desk, .. } = desk else {
-        unreachable!()
-    };
-    let Cell::Ledger(ledger) = ledger else {
-        unreachable!()
-    };
-    let Some(command) = &actor.command else {
-        unreachable!()
-    };
+    let desk = desk_in(desk);
+    let ledger = ledger_in(ledger);
+    let command = there(&actor.command);
     desk.clear();
     ledger.push(Event::Failed { of: command.of });
     actor.command = None;

@@ -12,7 +12,7 @@ ghost use Rattle.volap_cell.specs.declared.kind.Kind.TheVariants.{Note};
 use dim_hierarchy::Hierarchy;
 use row_ledger::{Event, How};
 use shard_plan::{Action, Load};
-use volap_cell::{Actor, Balance, Cell, Command, Job, Stage, Work};
+use volap_cell::{Actor, Balance, Cell, Command, Job, Stage, Work, ledger_in, there};
 
 /// Leaves the action that the actor's balance is at, which was declined or found no memory before its
 /// shard was frozen. The next action's job is begun in the same box. Takes no memory.
@@ -22,15 +22,9 @@ pub fn note_left(h: &Hierarchy, ledger_at: u32, ledger: &mut Cell, actor: &mut A
     ensures made { Makes h.now Note (change ledger_at (cell_of ledger.old) (cell_of ledger.new) ∷ []) (actor_of actor.old) (actor_of actor.new) }
 {
     let _ = h;
-    let Cell::Ledger(ledger) = ledger else {
-        unreachable!()
-    };
-    let Some(command) = &actor.command else {
-        unreachable!()
-    };
-    let Some(job) = &actor.job else {
-        unreachable!()
-    };
+    let ledger = ledger_in(ledger);
+    let command = there(&actor.command);
+    let job = there(&actor.job);
     let how = how_left(&job.stage);
     ledger.push(Event::Left {
         of: command.of,

@@ -13,7 +13,7 @@ ghost use Rattle.volap_cell.specs.declared.kind.Kind.TheVariants.{Note};
 use dim_hierarchy::Hierarchy;
 use row_ledger::{Event, Ledger};
 use std::alloc::AllocError;
-use volap_cell::{Actor, Cell, Role};
+use volap_cell::{Actor, Cell, Role, ledger_in};
 
 /// Notes that a command of the actor's names what is not known, first in this dimension.
 /// It ends with that. Takes memory for the one event, of the ledger's allocator.
@@ -31,9 +31,7 @@ pub fn note_unknown(
     ensures refused { OnErr result ((ledger.new ≡ ledger.old) × (actor_of actor.new ≡ actor_of actor.old)) }
 {
     let _ = h;
-    let Cell::Ledger(ledger) = ledger else {
-        unreachable!()
-    };
+    let ledger = ledger_in(ledger);
     push_unknown(ledger, actor.number, server_of(actor.role), dim)?;
     actor.seen = ledger.len();
     Ok(())
@@ -54,9 +52,7 @@ pub fn note_refused(
     ensures refused { OnErr result ((ledger.new ≡ ledger.old) × (actor_of actor.new ≡ actor_of actor.old)) }
 {
     let _ = h;
-    let Cell::Ledger(ledger) = ledger else {
-        unreachable!()
-    };
+    let ledger = ledger_in(ledger);
     push_refused(ledger, actor.number)?;
     actor.seen = ledger.len();
     Ok(())

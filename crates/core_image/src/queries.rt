@@ -15,7 +15,7 @@ use query_router::{Desk, Part, PartState, Want};
 use row_ledger::{Event, Ledger};
 use server_image::Image;
 use std::alloc::{AllocError, Global};
-use volap_cell::{Actor, Cell, Command, Role, Work};
+use volap_cell::{Actor, Cell, Command, Work, desk_in, image_in, ledger_in, owner_in};
 
 /// Begins a query: lays a part for each listed shard whose box overlaps the filter on the server's empty
 /// desk, and promises its end. Takes memory for the parts, each with a copy of the filter, and for two
@@ -44,17 +44,12 @@ pub fn begin_query(
     ensures refused { OnErr result ((desk.new ≡ desk.old) × (image.new ≡ image.old)
         × (ledger.new ≡ ledger.old) × (actor_of actor.new ≡ actor_of actor.old)) }
 {
-    let Cell::Desk { server, desk } = desk else {
-        unreachable!()
-    };
-    let Cell::Image { image, .. } = image else {
-        unreachable!()
-    };
-    let Cell::Ledger(ledger) = ledger else {
-        unreachable!()
-    };
+    let server = owner_in(desk);
+    let desk = desk_in(desk);
+    let image = image_in(image);
+    let ledger = ledger_in(ledger);
     let of = ledger.len();
-    ask(alloc, h, desk, image, ledger, actor.number, *server, filter)?;
+    ask(alloc, h, desk, image, ledger, actor.number, server, filter)?;
     actor.command = Some(Command {
         of,
         work: Work::Query,

@@ -15,7 +15,7 @@ use dim_hierarchy::{Coord, Hierarchy, Row};
 use query_router::{Desk, Part, PartState, Want};
 use server_image::Image;
 use std::alloc::{AllocError, Global};
-use volap_cell::{Actor, Cell, Command, Work};
+use volap_cell::{Actor, Cell, Command, Work, desk_in, image_in, there};
 
 /// Lays the one part of the actor's insert on its server's empty desk, for the worker of the shard to
 /// which the image leads its row. Takes memory for the part and its path.
@@ -35,15 +35,9 @@ pub fn route(
         (actor_of actor.old) (actor_of actor.new)) }
     ensures refused { OnErr result ((desk.new ≡ desk.old) × (image.new ≡ image.old) × (actor_of actor.new ≡ actor_of actor.old)) }
 {
-    let Cell::Desk { desk, .. } = desk else {
-        unreachable!()
-    };
-    let Cell::Image { image, .. } = image else {
-        unreachable!()
-    };
-    let Some(command) = &actor.command else {
-        unreachable!()
-    };
+    let desk = desk_in(desk);
+    let image = image_in(image);
+    let command = there(&actor.command);
     let Work::Insert { row, .. } = &command.work else {
         unreachable!()
     };

@@ -12,7 +12,7 @@ ghost use Rattle.volap_cell.specs.declared.kind.Kind.TheVariants.{Note};
 
 use dim_hierarchy::Hierarchy;
 use row_ledger::{Event, Page};
-use volap_cell::{Actor, Cell, Command, Work};
+use volap_cell::{Actor, Cell, Command, Work, ledger_in, there};
 
 /// Shows the page of the actor's command, directly behind its beginning. The page is what the state
 /// has while all others are idle, which is said of the whole step. It is noted as it is, so this takes
@@ -24,12 +24,8 @@ pub fn note_shown(h: &Hierarchy, ledger_at: u32, ledger: &mut Cell, actor: &mut 
     ensures told { Tells (shown_by page) (actor_of actor.old) (cell_of ledger.old) (cell_of ledger.new) }
 {
     let _ = h;
-    let Cell::Ledger(ledger) = ledger else {
-        unreachable!()
-    };
-    let Some(command) = &actor.command else {
-        unreachable!()
-    };
+    let ledger = ledger_in(ledger);
+    let command = there(&actor.command);
     ledger.push(Event::Shown {
         of: command.of,
         page,

@@ -15,7 +15,7 @@ use dim_hierarchy::Hierarchy;
 use row_ledger::{Event, Ledger};
 use server_image::{Image, Registry};
 use std::alloc::{AllocError, Global};
-use volap_cell::{Actor, Cell, Command, Work};
+use volap_cell::{Actor, Cell, Command, Work, image_in, ledger_in, owner_in, registry_in};
 
 /// Pulls for the server of the image: what its boxes have grown by goes to the registry, and it lists the
 /// shards that stand. What the image owes stays, with its room. Takes memory for the image's spots, for an
@@ -42,16 +42,11 @@ pub fn sync(
     ensures refused { OnErr result ((image.new ≡ image.old) × (registry.new ≡ registry.old)
         × (ledger.new ≡ ledger.old) × (actor_of actor.new ≡ actor_of actor.old)) }
 {
-    let Cell::Image { server, image } = image else {
-        unreachable!()
-    };
-    let Cell::Registry(registry) = registry else {
-        unreachable!()
-    };
-    let Cell::Ledger(ledger) = ledger else {
-        unreachable!()
-    };
-    pull(alloc, h, *server, image, registry, ledger)?;
+    let server = owner_in(image);
+    let image = image_in(image);
+    let registry = registry_in(registry);
+    let ledger = ledger_in(ledger);
+    pull(alloc, h, server, image, registry, ledger)?;
     go_on(&mut actor.command);
     actor.seen = ledger.len();
     Ok(())

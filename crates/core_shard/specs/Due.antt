@@ -231,8 +231,3 @@ pub record CanLookUp (map : CellValue) (gate_at : ℕ) (gate : CellValue) (a : A
   pub unknown : r.way ≡ Before None filled
   pub map_is : tag_of map ≡ MapOf e.worker
   pub leads : where_in map e.shard ≡ Some (where_is.Gate gate_at)
-
--- the cell has a gate
-pub record HasGate (cell : CellValue) : Type 0 where
-  pub gate : Gate
-  pub is : cell ≡ GateCell gate

@@ -21,10 +21,7 @@ pub fn leave(errand: &mut Option<Errand>) -> Errand
     ensures left { errand.old ≡ Some result }
     ensures none { errand.new ≡ None }
 {
-    let Some(had) = errand.take() else {
-        unreachable!()
-    };
-    had
+    errand.take().unwrap()
 }
 
 /// The part that an errand has been, where it waits for a worker. The empty path is for a part that has

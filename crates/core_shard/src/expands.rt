@@ -19,7 +19,7 @@ use dim_hierarchy::{Filter, Hierarchy, copy_filter};
 use mapping_table::{MapTable, Where};
 use query_router::{Desk, Part, PartState, Want};
 use std::alloc::{AllocError, Global};
-use volap_cell::{Actor, Cell, Errand, Task};
+use volap_cell::{Actor, Cell, Errand, Task, desk_in, map_in, there};
 
 /// Puts the actor's part back on its desk, where it waits for the children of its shard, which the table
 /// says was split: a row's for the child on its side, a query's for both. It takes memory for the row's
@@ -40,12 +40,8 @@ pub fn expand(
         (actor_of actor.old) (actor_of actor.new)) }
     ensures refused { OnErr result ((map.new ≡ map.old) × (desk.new ≡ desk.old) × (actor_of actor.new ≡ actor_of actor.old)) }
 {
-    let Cell::Map { map, .. } = map else {
-        unreachable!()
-    };
-    let Cell::Desk { desk, .. } = desk else {
-        unreachable!()
-    };
+    let map = map_in(map);
+    let desk = desk_in(desk);
     divide(alloc, h, map, desk, &mut actor.errand)
 }
 
@@ -62,13 +58,11 @@ fn divide(
     ensures left { OnOk result (errand.new ≡ None) }
     ensures refused { OnErr result ((desk.new ≡ desk.old) × (errand.new ≡ errand.old)) }
 {
-    let Some(had) = &*errand else { unreachable!() };
+    let had = there(errand);
     let Some(Where::Split { plane, left, right }) = map.look(had.shard) else {
         unreachable!()
     };
-    let Some(place) = desk.taken(had.shard, had.worker) else {
-        unreachable!()
-    };
+    let place = desk.taken(had.shard, had.worker).unwrap();
     if let Task::Row(_) = &had.task {
         return row_on(h, plane, *left, *right, place, desk, errand);
     }
@@ -142,7 +136,7 @@ fn both_on(
     ensures left { OnOk result (errand.new ≡ None) }
     ensures refused { OnErr result ((desk.new ≡ desk.old) × (errand.new ≡ errand.old)) }
 {
-    let Some(had) = &*errand else { unreachable!() };
+    let had = there(errand);
     let Task::Unread(filter) = &had.task else {
         unreachable!()
     };

@@ -12,7 +12,7 @@ use crate::errands::leave;
 use describing_set::Path;
 use dim_hierarchy::Hierarchy;
 use query_router::{Desk, Part, PartState};
-use volap_cell::{Actor, Cell, Errand, Reading, RowErrand, Task, Way};
+use volap_cell::{Actor, Cell, Errand, Reading, RowErrand, Task, Way, desk_in, gate_in};
 
 /// Puts the actor's part back on its desk, at its end: its row is placed, its query has read all, or no
 /// memory was found for it. Where the part is pinned at a gate, the gate is held, and loses the pin.
@@ -33,9 +33,7 @@ pub fn finish_part(
         (actor_of actor.old) (actor_of actor.new) }
 {
     let _ = h;
-    let Cell::Desk { desk, .. } = desk else {
-        unreachable!()
-    };
+    let desk = desk_in(desk);
     unpin_if(gate);
     let errand = leave(&mut actor.errand);
     end(desk, errand);
@@ -57,9 +55,7 @@ fn unpin(cell: &mut Cell)
     requires pinned { IsPinnedGate (cell_of cell.old) }
     ensures less { LosesPin (cell_of cell.old) (cell_of cell.new) }
 {
-    let Cell::Gate(gate) = cell else {
-        unreachable!()
-    };
+    let gate = gate_in(cell);
     gate.pins -= 1;
 }
 
@@ -68,9 +64,7 @@ fn end(desk: &mut Desk, errand: Errand)
     requires due { CanEnd desk.old (errand_of errand) }
     ensures ends { Ends (errand_of errand) desk.old desk.new }
 {
-    let Some(place) = desk.taken(errand.shard, errand.worker) else {
-        unreachable!()
-    };
+    let place = desk.taken(errand.shard, errand.worker).unwrap();
     let part = ended(errand, desk.no_path());
     desk.set(place, part);
 }

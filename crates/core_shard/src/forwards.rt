@@ -11,7 +11,7 @@ use crate::errands::{leave, waiting};
 use dim_hierarchy::Hierarchy;
 use mapping_table::{MapTable, Where};
 use query_router::Desk;
-use volap_cell::{Actor, Cell, Errand};
+use volap_cell::{Actor, Cell, Errand, desk_in, map_in};
 
 /// Puts the actor's part back on its desk, where it waits for the worker to which the table says that
 /// its shard has moved. Takes no memory.
@@ -30,12 +30,8 @@ pub fn forward(
         (actor_of actor.old) (actor_of actor.new) }
 {
     let _ = h;
-    let Cell::Map { map, .. } = map else {
-        unreachable!()
-    };
-    let Cell::Desk { desk, .. } = desk else {
-        unreachable!()
-    };
+    let map = map_in(map);
+    let desk = desk_in(desk);
     let errand = leave(&mut actor.errand);
     send(map, desk, errand);
 }
@@ -48,9 +44,7 @@ fn send(map: &MapTable, desk: &mut Desk, errand: Errand)
     let Some(Where::Moved(to)) = map.look(errand.shard) else {
         unreachable!()
     };
-    let Some(place) = desk.taken(errand.shard, errand.worker) else {
-        unreachable!()
-    };
+    let place = desk.taken(errand.shard, errand.worker).unwrap();
     let part = waiting(errand, *to, desk.no_path());
     desk.set(place, part);
 }

@@ -1,15 +1,14 @@
 //! What a worker's table and a gate say is looked up.
 ghost use Rattle.std.specs.Prelude.{◌≡◌, [], ◌∷◌};
-ghost use Rattle.core_shard.specs.Due.{CanLookUp, HasGate};
-ghost use Rattle.shard_store.specs.declared.gate.Gate.{Gate};
-ghost use Rattle.volap_cell.specs.Cells.{GateCell, cell_of};
+ghost use Rattle.core_shard.specs.Due.{CanLookUp};
+ghost use Rattle.volap_cell.specs.Cells.{cell_of};
 ghost use Rattle.volap_cell.specs.Steps.{IsHere, Makes};
 ghost use Rattle.volap_cell.specs.Values.{actor_of};
 ghost use Rattle.volap_cell.specs.World.{change, held};
 ghost use Rattle.volap_cell.specs.declared.kind.Kind.TheVariants.{LookUp};
 
 use dim_hierarchy::Hierarchy;
-use volap_cell::{Actor, Cell, Task, Way, go_on};
+use volap_cell::{Actor, Cell, Way, gate_seen, go_on, row_in};
 
 /// Notes the height of the tree of the gate to which the table leads the actor's row, so that the purse
 /// can be filled by it. The cells stay as they are. Takes no memory.
@@ -29,13 +28,8 @@ pub fn look_up(
 {
     let _ = h;
     let _ = map;
-    let height = height_in(gate);
-    let Some(errand) = &actor.errand else {
-        unreachable!()
-    };
-    let Task::Row(going) = &errand.task else {
-        unreachable!()
-    };
+    let height = gate_seen(gate).height;
+    let going = row_in(&actor.errand);
     let Way::Before { filled, .. } = going.way else {
         unreachable!()
     };
@@ -44,15 +38,4 @@ pub fn look_up(
         filled,
     };
     go_on(&mut actor.errand, known);
-}
-
-/// The height of the tree of the gate in a cell.
-fn height_in(cell: &Cell) -> u32
-    requires gate { HasGate (cell_of cell.now) }
-    ensures value { (gate : Gate) → cell_of cell.now ≡ GateCell gate → result ≡ gate.height }
-{
-    let Cell::Gate(gate) = cell else {
-        unreachable!()
-    };
-    gate.height
 }

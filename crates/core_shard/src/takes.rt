@@ -14,7 +14,7 @@ ghost use Rattle.volap_cell.specs.declared.kind.Kind.TheVariants.{TakePart};
 use crate::errands::give;
 use dim_hierarchy::Hierarchy;
 use query_router::{Desk, Part, PartState, Want};
-use volap_cell::{Actor, Cell, Errand, Role, RowErrand, Task, Way};
+use volap_cell::{Actor, Cell, Errand, Role, RowErrand, Task, Way, desk_in, owner_in};
 
 /// Takes the first part on the desk that the actor may take: of its own command, or one that waits for
 /// its worker. Takes no memory.
@@ -24,14 +24,11 @@ pub fn take_part(h: &Hierarchy, desk_at: u32, desk: &mut Cell, actor: &mut Actor
     ensures made { Makes h.now TakePart (change desk_at (cell_of desk.old) (cell_of desk.new) ∷ []) (actor_of actor.old) (actor_of actor.new) }
 {
     let _ = h;
-    let Cell::Desk { server, desk } = desk else {
-        unreachable!()
-    };
-    let Some(place) = ready_for(actor.role, desk) else {
-        unreachable!()
-    };
+    let server = owner_in(desk);
+    let desk = desk_in(desk);
+    let place = ready_for(actor.role, desk).unwrap();
     let part = desk.take(place);
-    let errand = errand_for(*server, part);
+    let errand = errand_for(server, part);
     give(&mut actor.errand, errand);
 }
 

@@ -8,3 +8,4 @@ pub mod Books
 pub mod Notes
 pub mod Jobs
 pub mod Reuses
+pub mod Counts

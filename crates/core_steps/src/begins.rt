@@ -1,11 +1,10 @@
 //! The steps by which inserts and queries begin.
 
-use crate::lending::lent;
 use crate::places::ledger_place;
 use crate::step::{CellStep, Others, Places};
 use dim_hierarchy::{Coord, Filter, Hierarchy, Measures};
 use std::alloc::{AllocError, Global};
-use volap_cell::{Actor, Cell};
+use volap_cell::{Actor, Cell, lent};
 
 /// A step by which an actor's next command begins, with the image of its server.
 #[derive(Drop)]

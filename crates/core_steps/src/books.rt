@@ -1,11 +1,10 @@
 //! The steps of inserts, queries and pulls at desks and images.
 
-use crate::lending::lent;
 use crate::places::{ledger_place, registry_place};
 use crate::step::{CellStep, Others, Places};
 use dim_hierarchy::Hierarchy;
 use std::alloc::{AllocError, Global};
-use volap_cell::{Actor, Cell};
+use volap_cell::{Actor, Cell, lent};
 
 /// A step of an actor's insert, query or pull, with the desk or the image of a server.
 #[derive(Drop)]

@@ -6,12 +6,12 @@ ghost use Rattle.volap_cell.specs.State.{still};
 ghost use Rattle.volap_cell.specs.Steps.{IsHere};
 ghost use Rattle.volap_cell.specs.Values.{actor_of};
 
-use crate::lending::{lend_two, lent};
+use crate::lending::lend_two;
 use crate::moving::{lift, put};
 use crate::step::{CellStep, Others, Places};
 use dim_hierarchy::Hierarchy;
 use std::alloc::{AllocError, Global};
-use volap_cell::{Actor, Cell, State};
+use volap_cell::{Actor, Cell, State, lent};
 
 /// An actor makes a step: the first two cells are lent where they stand, and others are moved out and put
 /// back. Where memory is wanting, the state stays as it was.

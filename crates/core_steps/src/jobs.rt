@@ -1,11 +1,10 @@
 //! The steps that the administrator makes for a split, a move or a balance.
 
-use crate::lending::lent;
 use crate::places::{ledger_place, registry_place, stock_place};
 use crate::step::{CellStep, Others, Places};
 use dim_hierarchy::Hierarchy;
 use std::alloc::{AllocError, Global};
-use volap_cell::{Actor, Cell};
+use volap_cell::{Actor, Cell, lent};
 
 /// A step of the administrator's job, or of its balance.
 #[derive(Drop)]

@@ -1,19 +1,6 @@
 //! Cells that are lent where they stand.
 ghost use Rattle.std.specs.Borrow.{sem, LendsBoth, Array};
-ghost use Rattle.std.specs.Option.Follows.{option_follows_value};
-ghost use Rattle.std.specs.Prelude.{◌≡◌, ◌≢◌, ◌<◌, true, length, is_some, slice_index_or, slice_set, Some};
-
-/// What is there.
-pub fn lent<T>(place: &mut Option<T>) -> &mut T
-    requires { is_some place.old ≡ true }
-    ensures* writes_back { sem 𝓛 (option_follows_value T.row place.entry result) }
-    ensures value { place.old ≡ Some result.now }
-{
-    match place {
-        Some(x) => x,
-        None => unreachable!(),
-    }
-}
+ghost use Rattle.std.specs.Prelude.{◌≡◌, ◌≢◌, ◌<◌, length, slice_index_or, slice_set};
 
 /// Two places.
 pub(crate) fn lend_two<T>(places: &mut [T], a: usize, b: usize) -> (&mut T, &mut T)

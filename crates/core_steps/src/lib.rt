@@ -3,6 +3,7 @@
 
 mod begins;
 mod books;
+mod counts;
 mod driver;
 mod jobs;
 mod lending;
@@ -17,9 +18,9 @@ mod trees;
 
 pub use begins::BeginStep;
 pub use books::BookStep;
+pub use counts::CountStep;
 pub use driver::make;
 pub use jobs::JobStep;
-pub use lending::lent;
 pub use notes::NoteStep;
 pub use parts::PartStep;
 pub use places::{desk_place, image_place, ledger_place, map_place, registry_place, stock_place};

@@ -1,12 +1,11 @@
 //! The notes in the ledger by which commands begin and end, and by which pages are shown.
 
-use crate::lending::lent;
 use crate::places::{ledger_place, registry_place};
 use crate::step::{CellStep, Others, Places};
 use dim_hierarchy::Hierarchy;
 use row_ledger::{Call, How, Page};
 use std::alloc::{AllocError, Global};
-use volap_cell::{Actor, Cell};
+use volap_cell::{Actor, Cell, lent};
 
 /// A note of an actor in the ledger.
 #[derive(Drop)]

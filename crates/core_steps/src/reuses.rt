@@ -1,11 +1,10 @@
 //! The steps by which the cells of a gate that is gone are used again.
 
-use crate::lending::lent;
 use crate::places::stock_place;
 use crate::step::{CellStep, Others, Places};
 use dim_hierarchy::Hierarchy;
 use std::alloc::{AllocError, Global};
-use volap_cell::{Actor, Cell};
+use volap_cell::{Actor, Cell, lent};
 
 /// A step of the administrator, who has no command, by which one cell of a gate that is gone is the stock's again.
 #[derive(Drop)]

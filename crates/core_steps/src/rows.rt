@@ -2,11 +2,10 @@
 ghost use Rattle.std.specs.Prelude.{◌≡◌};
 ghost use Rattle.core_steps.specs.Rows.{number_of};
 
-use crate::lending::lent;
 use crate::step::{CellStep, Others, Places};
 use dim_hierarchy::Hierarchy;
 use std::alloc::{AllocError, Global};
-use volap_cell::{Actor, Cell};
+use volap_cell::{Actor, Cell, lent};
 
 /// A step of an actor's row to a head.
 #[derive(Drop)]

@@ -1,10 +1,9 @@
 //! The steps of rows and queries at a gate or a block, and of purses.
-use crate::lending::lent;
 use crate::places::stock_place;
 use crate::step::{CellStep, Others, Places};
 use dim_hierarchy::Hierarchy;
 use std::alloc::{AllocError, Global};
-use volap_cell::{Actor, Cell};
+use volap_cell::{Actor, Cell, lent};
 
 /// A step of an actor at a gate or in its tree, or of its purse.
 #[derive(Drop)]

@@ -16,7 +16,7 @@ use dc_node::Block;
 use dim_hierarchy::{Hierarchy, Row};
 use link_descent::{Tail, pass_down};
 use tree_shape::{collect_laws, frame_law, insert_laws, tree_laws};
-use volap_cell::{Actor, Boxes, Cell, Task, Way, go_on};
+use volap_cell::{Actor, Boxes, Cell, Way, block_in, go_on, row_in};
 
 /// Lends the block of a cell that is held behind a head, where there is one, behind those of the tail.
 pub(crate) fn add_behind<'a>(tail: &mut Tail<'a>, cell: &'a Option<Cell>)
@@ -101,21 +101,12 @@ pub fn down(
     collect_laws();
     insert_laws();
     tree_laws();
-    let Some(errand) = &actor.errand else {
-        unreachable!()
-    };
-    let Task::Row(going) = &errand.task else {
-        unreachable!()
-    };
+    let going = row_in(&actor.errand);
     let Way::Carried { gate, .. } = going.way else {
         unreachable!()
     };
-    let Cell::Block(parent) = parent else {
-        unreachable!()
-    };
-    let Cell::Block(child) = child else {
-        unreachable!()
-    };
+    let parent = block_in(parent);
+    let child = block_in(child);
     let (purse, boxes) = (&mut actor.purse, &mut actor.boxes);
     let block = step(
         parent, place, child, first, second, fresh, purse, boxes, h, &going.row,

@@ -14,7 +14,7 @@ use dim_hierarchy::{Hierarchy, Row};
 use link_descent::{Tail, pass_root};
 use shard_store::Gate;
 use tree_shape::{collect_laws, frame_law, insert_laws, tree_laws};
-use volap_cell::{Actor, Boxes, Cell, Task, Way, go_on};
+use volap_cell::{Actor, Boxes, Cell, Way, block_in, gate_in, go_on, row_in};
 
 /// Takes a row in at an open gate, with the blocks behind the root that are held, and counts the insert
 /// there. Where the root has room the row is counted at the gate, and that is all. Tells where the row is
@@ -92,18 +92,9 @@ pub fn enter_tree(
     collect_laws();
     insert_laws();
     tree_laws();
-    let Some(errand) = &actor.errand else {
-        unreachable!()
-    };
-    let Task::Row(going) = &errand.task else {
-        unreachable!()
-    };
-    let Cell::Gate(gate) = gate else {
-        unreachable!()
-    };
-    let Cell::Block(root) = root else {
-        unreachable!()
-    };
+    let going = row_in(&actor.errand);
+    let gate = gate_in(gate);
+    let root = block_in(root);
     let (purse, boxes) = (&mut actor.purse, &mut actor.boxes);
     let block = come_in(
         gate, root, first, second, fresh, top, purse, boxes, h, &going.row,

@@ -8,7 +8,7 @@ ghost use Rattle.volap_cell.specs.World.{change, held};
 ghost use Rattle.volap_cell.specs.declared.kind.Kind.TheVariants.{LeaveTree};
 
 use dim_hierarchy::Hierarchy;
-use volap_cell::{Actor, Cell, Task, Way, go_on};
+use volap_cell::{Actor, Cell, Way, gate_in, go_on};
 
 /// Counts the actor's insert, whose row is in its leaf, at its gate no more. Takes no memory.
 pub fn leave_tree(h: &Hierarchy, gate_at: u32, gate: &mut Cell, actor: &mut Actor)
@@ -17,15 +17,6 @@ pub fn leave_tree(h: &Hierarchy, gate_at: u32, gate: &mut Cell, actor: &mut Acto
     ensures made { Makes h.now LeaveTree (change gate_at (cell_of gate.old) (cell_of gate.new) ∷ []) (actor_of actor.old) (actor_of actor.new) }
 {
     let _ = h;
-    let Some(errand) = &actor.errand else {
-        unreachable!()
-    };
-    let Task::Row(_) = &errand.task else {
-        unreachable!()
-    };
-    let Cell::Gate(gate) = gate else {
-        unreachable!()
-    };
-    gate.leave();
+    gate_in(gate).leave();
     go_on(&mut actor.errand, Way::Placed);
 }

@@ -9,7 +9,7 @@ ghost use Rattle.volap_cell.specs.declared.kind.Kind.TheVariants.{PutInLeaf};
 
 use dim_hierarchy::Hierarchy;
 use tree_shape::{collect_laws, frame_law, insert_laws};
-use volap_cell::{Actor, Cell, Task, Way, go_on};
+use volap_cell::{Actor, Cell, Way, block_in, go_on, row_in};
 
 /// Puts the row that the actor carries behind the rows of its leaf. It is carried no more. Takes no memory.
 pub fn put_in_leaf(h: &Hierarchy, at: u32, cell: &mut Cell, actor: &mut Actor)
@@ -21,18 +21,11 @@ pub fn put_in_leaf(h: &Hierarchy, at: u32, cell: &mut Cell, actor: &mut Actor)
     frame_law();
     collect_laws();
     insert_laws();
-    let Some(errand) = &actor.errand else {
-        unreachable!()
-    };
-    let Task::Row(going) = &errand.task else {
-        unreachable!()
-    };
+    let going = row_in(&actor.errand);
     let Way::Carried { gate, .. } = going.way else {
         unreachable!()
     };
-    let Cell::Block(leaf) = cell else {
-        unreachable!()
-    };
+    let leaf = block_in(cell);
     actor.boxes.put_leaf(leaf, &going.row);
     go_on(&mut actor.errand, Way::Put { gate });
 }

@@ -9,7 +9,7 @@ ghost use Rattle.volap_cell.specs.declared.kind.Kind.TheVariants.{EnterQueue};
 
 use dim_hierarchy::Hierarchy;
 use std::alloc::{AllocError, Global};
-use volap_cell::{Actor, Cell, Task, Way, go_on};
+use volap_cell::{Actor, Cell, Way, gate_in, go_on, row_in};
 
 /// Puts the actor's row behind the others in the queue of its shard's gate, to which the worker's table
 /// leads. The row has its place then, and its part's path. Where memory is wanting, it changes nothing.
@@ -31,16 +31,8 @@ pub fn enter_queue(
 {
     let _ = alloc;
     let _ = map;
-    let Some(errand) = &actor.errand else {
-        unreachable!()
-    };
-    let Task::Row(going) = &errand.task else {
-        unreachable!()
-    };
-    let Cell::Gate(gate) = gate else {
-        unreachable!()
-    };
-    gate.enqueue(h, &going.row)?;
+    let going = row_in(&actor.errand);
+    gate_in(gate).enqueue(h, &going.row)?;
     go_on(&mut actor.errand, Way::Placed);
     Ok(())
 }

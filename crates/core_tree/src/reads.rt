@@ -14,7 +14,7 @@ use measure_agg::Agg;
 use shard_store::Gate;
 use std::alloc::{AllocError, Global};
 use tree_shape::{frame_law, query_laws, tree_laws};
-use volap_cell::{Actor, Cell, Errand, Reading, Task};
+use volap_cell::{Actor, Cell, Errand, Reading, Task, gate_in, lent};
 
 /// Reads queue and tree of the gate to which the worker of the part leads: what lies inside the filter is
 /// counted whole, matching rows of the queue one by one, and where the tree only overlaps the filter its root is
@@ -39,13 +39,8 @@ pub fn gate_read(
     frame_law();
     tree_laws();
     query_laws();
-    let Some(errand) = &mut actor.errand else {
-        unreachable!()
-    };
-    let Cell::Gate(gate) = gate else {
-        unreachable!()
-    };
-    read_part(alloc, h, gate_at, gate, errand)
+    let errand = lent(&mut actor.errand);
+    read_part(alloc, h, gate_at, gate_in(gate), errand)
 }
 
 /// Reads the gate for a part that has read nothing. What can fail comes first.

@@ -11,7 +11,7 @@ ghost use Rattle.volap_cell.specs.declared.kind.Kind.TheVariants.{Refill};
 use cell_stock::{Purse, Stock};
 use dim_hierarchy::Hierarchy;
 use std::alloc::{AllocError, Global};
-use volap_cell::{Actor, Boxes, Cell, Task, Way, go_on};
+use volap_cell::{Actor, Boxes, Cell, Way, go_on, row_in, stock_in};
 
 /// So many stamps there are.
 const STAMPS: u64 = 1 << 63;
@@ -37,19 +37,12 @@ pub fn refill(
 {
     let _ = alloc;
     let _ = h;
-    let Some(errand) = &actor.errand else {
-        unreachable!()
-    };
-    let Task::Row(going) = &errand.task else {
-        unreachable!()
-    };
+    let going = row_in(&actor.errand);
     let Way::Before { height: noted, .. } = going.way else {
         unreachable!()
     };
-    let Some(height) = noted else { unreachable!() };
-    let Cell::Stock(stock) = stock else {
-        unreachable!()
-    };
+    let height = noted.unwrap();
+    let stock = stock_in(stock);
     let spares = u64::from(height) + BESIDE_LEVELS;
     exchange(stock, spares, &mut actor.purse, &mut actor.boxes)?;
     go_on(
@@ -69,10 +62,7 @@ pub fn give_back(h: &Hierarchy, stock_at: u32, stock: &mut Cell, actor: &mut Act
     ensures made { Makes h.now Refill (change stock_at (cell_of stock.old) (cell_of stock.new) ∷ []) (actor_of actor.old) (actor_of actor.new) }
 {
     let _ = h;
-    let Cell::Stock(stock) = stock else {
-        unreachable!()
-    };
-    stock.give(&mut actor.purse);
+    stock_in(stock).give(&mut actor.purse);
 }
 
 /// Empties the purse into the stock, and takes `n` spares where so many cells are free. The room and the

@@ -13,7 +13,7 @@ use dim_hierarchy::Hierarchy;
 use link_descent::{MOST_NOTED, visit};
 use std::alloc::AllocError;
 use tree_shape::{query_laws, tree_laws};
-use volap_cell::{Actor, Cell, Errand, Reading, Task};
+use volap_cell::{Actor, Cell, Errand, Reading, Task, block_seen, lent};
 
 /// Visits the block that the actor's query noted last: counts what it must there, and notes what it has
 /// still to visit. Takes memory only where there is not room to note as many blocks as a visit may.
@@ -32,13 +32,8 @@ pub fn block_visit(
     let _ = h;
     tree_laws();
     query_laws();
-    let Some(errand) = &mut actor.errand else {
-        unreachable!()
-    };
-    let Cell::Block(block) = &*cell else {
-        unreachable!()
-    };
-    visit_part(block, errand)
+    let errand = lent(&mut actor.errand);
+    visit_part(block_seen(cell), errand)
 }
 
 /// Visits the block, which the part noted last. A function of its own, since a function is not told what became of a
@@ -63,9 +58,7 @@ fn visit_last(block: &Block, reading: &mut Reading) -> Result<(), AllocError>
     ensures enough { most_noted ≤ reading.old.todo.room → IsOk result }
 {
     reading.todo.reserve(MOST_NOTED)?;
-    let Some(item) = reading.todo.pop() else {
-        unreachable!()
-    };
+    let item = reading.todo.pop().unwrap();
     visit(
         block,
         item.stamp,

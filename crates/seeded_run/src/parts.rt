@@ -13,11 +13,11 @@ ghost use Rattle.volap_cell.specs.Values.{ErrandValue, actor_of, errand_of};
 ghost use Rattle.volap_cell.specs.declared.kind.Kind.TheVariants.{FinishPart, TakePart};
 
 use core_due::{PartDue, awaiting, descend, desk_at, ending, enter};
-use core_steps::{PartStep, RowStep, lent, make};
+use core_steps::{PartStep, RowStep, make};
 use dim_hierarchy::Hierarchy;
 use row_ledger::Use;
 use std::alloc::{AllocError, Global};
-use volap_cell::{Actor, Errand, State, Task};
+use volap_cell::{Actor, Errand, State, Task, lent};
 
 /// The step by which a part ends that can end.
 fn end_of(with: &Use, errand: &Errand) -> PartStep

@@ -15,11 +15,11 @@ ghost use Rattle.volap_cell.specs.declared.kind.Kind.TheVariants.{Note};
 
 use crate::shows::show_page;
 use core_due::{WorkDue, split_of};
-use core_steps::{BookStep, JobStep, NoteStep, PartStep, lent, make};
+use core_steps::{BookStep, JobStep, NoteStep, PartStep, make};
 use dim_hierarchy::Hierarchy;
 use row_ledger::{How, Use};
 use std::alloc::Global;
-use volap_cell::{Command, State, Work};
+use volap_cell::{Command, State, Work, lent};
 
 /// The actor's called command ends so. Takes no memory.
 pub(crate) fn end_command(alloc: Global, h: &Hierarchy, state: &mut State, number: usize, how: How)

@@ -6,4 +6,4 @@ pub mod Lifting
 pub mod Blanks
 pub mod Spares
 pub mod Past
-pub mod Boxed
+pub mod Lent

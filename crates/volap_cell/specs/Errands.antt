@@ -77,6 +77,17 @@ abbrev pub way_of : Option ErrandValue → Option RowWay
 way_of None = None
 way_of (Some e) = way_in_task e e.task
 
+-- it is a row's
+
+abbrev pub is_of_row : TaskValue → Bool
+is_of_row (OfRow r) = true
+is_of_row (Unread f) = false
+is_of_row (Read r) = false
+
+abbrev pub has_row : Option ErrandValue → Bool
+has_row None = false
+has_row (Some e) = is_of_row e.task
+
 -- the row has passed its gate
 abbrev pub has_passed : RowPlace → Bool
 has_passed Outside = false

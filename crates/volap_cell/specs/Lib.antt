@@ -35,4 +35,5 @@ pub mod Sights
 pub mod Steps
 pub mod Promises
 pub mod State
+pub mod Lending
 pub mod Filling

@@ -11,11 +11,13 @@ mod gone_gates;
 mod job;
 mod kind;
 mod laws;
+mod lending;
 mod opening;
 mod plan;
 mod role;
 mod room;
 mod state;
+mod tags;
 
 pub use actor::{About, Actor};
 pub use boxes::Boxes;
@@ -28,6 +30,7 @@ pub use kind::Kind;
 pub use laws::{
     each_row_has_one_place, images_cover, opening_holds, queries_count_once, shards_have_the_rows,
 };
+pub use lending::{lent, row_in, there};
 pub use opening::open;
 pub use plan::ActionPlan;
 pub use role::{Role, RoleList};
@@ -35,4 +38,8 @@ pub use room::NoteRoom;
 pub use state::{
     State, lift_five, lift_four, lift_if, lift_one, lift_seven, lift_six, lift_three, lift_two,
     put_five, put_four, put_if, put_one, put_seven, put_six, put_three, put_two,
+};
+pub use tags::{
+    block_in, block_seen, desk_in, gate_in, gate_seen, image_in, ledger_in, map_in, owner_in,
+    registry_in, stock_in,
 };

@@ -1,5 +1,5 @@
 -- What the reading of a gate asks for, and what it did, in the words of its calls.
-use Rattle.std.proofs.{Common.{◌≡◌, ℕ, ◌+◌, ◌<◌, ◌≤◌, true, cond, eqb, List, [], ◌∷◌, length, map, Option, Some, None, IsSome, refl, sym, ap, ◌∙◌, subst, arith, Box, Global}, lemmas.Bool.eqb-true, lemmas.List.length-map}
+use Rattle.std.proofs.{Common.{◌≡◌, ℕ, ◌+◌, ◌<◌, ◌≤◌, true, cond, eqb, List, [], ◌∷◌, length, map, Option, Some, None, IsSome, refl, sym, ap, ◌∙◌, subst, arith}, lemmas.Bool.eqb-true, lemmas.List.length-map}
 use Rattle.std.specs.Option.{option_map_or}
 use Rattle.dim_hierarchy.specs.{Dimension.Dimension, declared.filter.Pick.Pick, declared.row.Row.Row}
 use Rattle.describing_set.specs.Sets.{IsDescSetOf}
@@ -12,8 +12,7 @@ use Rattle.list_words.specs.Counts.{times}
 use Rattle.list_words.proofs.Truth.{on_bool}
 use Rattle.tree_shape.specs.{Laws.{BeginLaw, GateLaw, OtherLaw, RootLaw}, Shape.numbers}
 use Rattle.tree_shape.proofs.Whole.Sums.{coords-valid}
-use Rattle.volap_cell.specs.{Cells.{CellValue, FreeCell, LedgerCell, StockCell, RegistryCell, ImageCell, DeskCell, MapCell, GateCell, BlockCell, cell_of, gate_shard, pins_in, queue_in, way_in}, Errands.{ReadPart, Taken, taken_by, taken_of, read_of, read_in_task, want_of}, Ghost.Ghost, Growing.table_of, Invariant.InvWith, Querying.{pins_of, one_pin}, Setting.{Setting, actor_count}, Steps.{IsHere, Makes}, Stocking.cells_at, TreeKinds.{DoesGateRead, Leads}, Values.{ActorValue, ErrandValue, ReadingValue, TaskValue, OfRow, Unread, Read}, View.{View, view}, World.{World, change, held}, declared.cell.Cell.Cell, declared.kind.Kind.TheVariants.GateRead}
-use Rattle.volap_cell.specs.declared.cell.Cell.TheVariants as cell
+use Rattle.volap_cell.specs.{Cells.{CellValue, FreeCell, LedgerCell, StockCell, RegistryCell, ImageCell, DeskCell, MapCell, GateCell, BlockCell, gate_shard, pins_in, queue_in, way_in}, Errands.{ReadPart, Taken, taken_by, taken_of, read_of, read_in_task, want_of}, Ghost.Ghost, Growing.table_of, Invariant.InvWith, Querying.{pins_of, one_pin}, Setting.{Setting, actor_count}, Steps.{IsHere, Makes}, Stocking.cells_at, TreeKinds.{DoesGateRead, Leads}, Values.{ActorValue, ErrandValue, ReadingValue, TaskValue, OfRow, Unread, Read}, View.{View, view}, World.{World, change, held}, declared.kind.Kind.TheVariants.GateRead}
 use Rattle.volap_cell.proofs.{Counting.{length-few, passing, passing-once, sum-keyed}, Desks.Queries.{IsQueryPart, query-part, alone}}
 use Rattle.core_tree.proofs.{EachStep.ReadsGate.{IsShardGate, shard-gate, read-keeps, few-same}, Queries.Walkers.{asked-of, home-at, placed-older, rows-under, tree-few}}
 use Rattle.core_tree.specs.ReadDue.{CanGateRead, CanBegin, BeginsFor, IsAtGate}
@@ -182,15 +181,3 @@ read-makes begins roots other h map_at gate_at places gate gate_now it it_now a 
       actor_is = actor_is ∙ ap (λ (x : ErrandValue). record a { errand = Some x }) did.now_is;
     } in
     record { does = does; keeps = read-keeps begins roots other h (change map_at places places) (change gate_at gate gate_now) a b does }
-
--- a cell that is a gate holds it in a box
-pub boxed-gate : {P : Type 0} (y : Cell) (it : Gate) → cell_of y ≡ GateCell it → ((x : Box Gate Global) → y ≡ cell.Gate x → P) → P
-boxed-gate (cell.Gate x) it e f = f x refl
-boxed-gate cell.Free it e f = cc
-boxed-gate (cell.Ledger l) it e f = cc
-boxed-gate (cell.Stock t) it e f = cc
-boxed-gate (cell.Registry r) it e f = cc
-boxed-gate (cell.Image s i) it e f = cc
-boxed-gate (cell.Desk s d) it e f = cc
-boxed-gate (cell.Map w m) it e f = cc
-boxed-gate (cell.Block x) it e f = cc

@@ -1,5 +1,5 @@
-use Rattle.std.proofs.Common.{ap, sym, ◌∙◌}
-use Rattle.volap_cell.specs.{Cells.{DeskCell, cell_of}, Values.actor_of}
+use Rattle.std.proofs.Common.{ap}
+use Rattle.volap_cell.specs.{Cells.{cell_of}, Lending.owner_of, Values.actor_of}
 use Rattle.core_image.proofs.EachStep.CountsSession.{count-makes, may-count}
 use Rattle.core_image.proofs.counts.count_session.Goals as goal
 
@@ -7,13 +7,13 @@ pub count-requires : goal.count-requires
 count-requires c =
     record {
       can = may-count c.args.h.now c.args.desk_at (cell_of c.args.desk.now) (actor_of c.args.actor.now) c.args.come c.requires.here c.requires.due
-          c.in-Desk.server c.deref_mut.result.now (ap cell_of c.in-Desk.is ∙ ap (DeskCell c.in-Desk.server) (sym c.deref_mut.ensures.value));
+          (owner_of c.args.desk.now) c.desk_in-desk.result.now (ap cell_of c.desk_in-desk.ensures.value);
     }
 
 pub returns : goal.returns
 returns c =
     record {
       made = count-makes c.args.h.now c.args.desk_at (cell_of c.args.desk.now) (actor_of c.args.actor.now) c.args.come c.requires.here c.requires.due
-          c.in-Desk.server c.deref_mut.result.now (ap cell_of c.in-Desk.is ∙ ap (DeskCell c.in-Desk.server) (sym c.deref_mut.ensures.value))
+          (owner_of c.args.desk.now) c.desk_in-desk.result.now (ap cell_of c.desk_in-desk.ensures.value)
           c.count.new.desk c.count.ensures.counts;
     }

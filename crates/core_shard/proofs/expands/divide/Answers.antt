@@ -8,5 +8,5 @@ pub returns-in-Row-clause-done : goal.returns-in-Row-clause-done
 returns-in-Row-clause-done c =
     let split = c.in-Some-Split in
     on_ok_weaker c.row_on.result (λ done.
-    divided-row c.args.h.now c.args.map.now c.args.desk.now c.row_on.new.desk c.args.errand.now c.in-Some.had c.in-Some.is c.in-Row.field-0 c.in-Row.is split.plane split.left split.right
-    (sym c.look.ensures ∙ ap option_copied split.is ∙ ap Some split.field-0-is) c.in-Some-taken.place (sym c.taken.ensures.place ∙ c.in-Some-taken.is) done) c.row_on.ensures.done
+    divided-row c.args.h.now c.args.map.now c.args.desk.now c.row_on.new.desk c.args.errand.now c.there-had.result.now c.there-had.ensures c.in-Row.field-0 c.in-Row.is split.plane split.left split.right
+    (sym c.look.ensures ∙ ap option_copied split.is ∙ ap Some split.field-0-is) c.unwrap-place.result (sym c.taken.ensures.place ∙ c.unwrap-place.ensures) done) c.row_on.ensures.done
