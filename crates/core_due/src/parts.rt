@@ -45,7 +45,7 @@ pub fn is_spent(actor: &Actor) -> bool
 }
 
 /// Whether rows come in at the gate, and the actor has spares for each level of its tree.
-fn lets_in(gate: &Gate, actor: &Actor) -> bool
+pub fn lets_in(gate: &Gate, actor: &Actor) -> bool
     ensures { result ≡ may_enter (GateCell gate.now) (actor_of actor.now) }
 {
     match gate.phase {
@@ -136,7 +136,7 @@ fn carried_due(cells: &[Option<Cell>], block: u32) -> PartDue
 }
 
 /// What is due for a row in its place: what is left of the purse is given back before the part ends.
-fn placed_due(with: &Use, actor: &Actor, errand: &Errand) -> PartDue
+pub fn placed_due(with: &Use, actor: &Actor, errand: &Errand) -> PartDue
     ensures { result ≡ placed_due (setting_by [] with.now) (actor_of actor.now) (errand_of errand.now) }
 {
     if is_spent(actor) {
@@ -188,7 +188,7 @@ pub fn ending(with: &Use, errand: &Errand, pin: Option<u32>) -> PartStep
 }
 
 /// What is due for a query's part that has read its gate: it visits the blocks that it has noted, and then ends.
-fn read_due(with: &Use, errand: &Errand, reading: &Reading) -> PartDue
+pub fn read_due(with: &Use, errand: &Errand, reading: &Reading) -> PartDue
     ensures { result ≡ read_due (setting_by [] with.now) (errand_of errand.now) (reading_of reading.now) }
 {
     match last_noted(&reading.todo) {

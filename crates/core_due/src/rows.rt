@@ -29,12 +29,23 @@ fn is_full_at(cells: &[Option<Cell>], at: u32) -> bool
     }
 }
 
-/// The next block of a group, unless the one in the cell has the stamp that is expected of the last one.
+/// The next block of a group, unless the block has the stamp that is expected of the last one.
+pub fn next_of(block: &Block, expected: u64) -> Option<u32>
+    ensures { result ≡ next_behind expected block.now }
+{
+    if block.stamp == expected {
+        None
+    } else {
+        block.right
+    }
+}
+
+/// The next block of a group, by the one in the cell.
 fn next_behind(cells: &[Option<Cell>], at: u32, expected: u64) -> Option<u32>
     ensures { result ≡ next_behind expected (block_in (cell_at cells.now at)) }
 {
     match cell_at(cells, at) {
-        Some(Cell::Block(block)) if block.stamp != expected => block.right,
+        Some(Cell::Block(block)) => next_of(block, expected),
         _ => None,
     }
 }

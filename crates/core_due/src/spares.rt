@@ -5,7 +5,7 @@ ghost use Rattle.core_due.specs.Spares.{last_spare, spare_before};
 use cell_stock::Purse;
 
 /// The cell of a purse's last spare.
-pub(crate) fn last_spare(purse: &Purse) -> Option<u32>
+pub fn last_spare(purse: &Purse) -> Option<u32>
     ensures { result ≡ last_spare purse.now.spares }
 {
     match purse.last() {
@@ -16,7 +16,7 @@ pub(crate) fn last_spare(purse: &Purse) -> Option<u32>
 
 /// The cells of a purse's last spare, and of the one before it. The last one is taken out for a look at the
 /// other, and put back. Takes no memory.
-pub(crate) fn last_two(purse: &mut Purse) -> (Option<u32>, Option<u32>)
+pub fn last_two(purse: &mut Purse) -> (Option<u32>, Option<u32>)
     ensures last { result.0 ≡ last_spare purse.old.spares }
     ensures before { result.1 ≡ spare_before purse.old.spares }
     ensures unchanged { purse.new ≡ purse.old }

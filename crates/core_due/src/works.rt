@@ -54,7 +54,7 @@ fn any_placed(parts: &[Part]) -> bool
 }
 
 /// What is due for the command on a desk. What its parts come to isn't summed up for that.
-fn parts_due(at: u32, image: u32, failed: BookStep, desk: &Desk) -> Option<WorkDue>
+pub fn parts_due(at: u32, image: u32, failed: BookStep, desk: &Desk) -> Option<WorkDue>
     ensures { result ≡ works.parts_due at image failed desk.now }
 {
     if desk.has_open() {

@@ -198,7 +198,7 @@ module _ {Cell Actor Entry : Type 0} (invariant : List Cell → List Actor → T
   pub look_allowed : (slots id k : ℕ) (m : M) → m.0.actors ≢ [] → length m.0.told ≤ length m.0.seen → Allows Rule slots id m k (λ n. n) (Looked invariant log_at log needs (step slots k 0 0 none) m)
   look_allowed slots id k m active less s r deep at small = let r' = notes invariant log_at log needs count s r id k m.0 m.0 at refl refl refl refl refl refl refl refl in
       let mine = r.each_seat id m.0 at in let c = there r.cells log_at r.logged in let a = mine.0.told c.0 c.1 in let b = mine.0.seen c.0 c.1 in
-      (m.0, staying, tt, r', (refl, possible s r id m.0 at active, prefix_two m.0.told m.0.seen a.0 b.0 (sym a.1 ∙ b.1) less))
+      (m.0, staying, tt, r', (refl, possible s r id m.0 at active, prefix_two m.0.told m.0.seen a.0 b.0 (sym a.1 ∙ b.1) less, mine.1.apart))
 
   pub split_allowed_as : (id n : ℕ) (v left right : V) (a : Actor) → left ≡ after_split v n → right ≡ split_view v n → value_of v.actors n ≡ some a → n ≢ v.number → ((k : ℕ) → needs a k → ⊥) → Splits Rule id v left right
   split_allowed_as id n v left right a e f has other free = let P : V × V → Type 0 = λ z. Splits Rule id v z.0 z.1 in subst P (λ i. (sym e i, sym f i)) (split_allowed id n v a has other free)

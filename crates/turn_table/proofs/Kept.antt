@@ -9,7 +9,7 @@ use lib.Seq.{set-get_or}
 use Rattle.atomic_table.specs.Table.{State}
 use Rattle.atomic_table.proofs.Lists.{at_set, set_here, set_else, at_longer, at_last}
 use Rattle.turn_table.specs.{Numbered.{value_of, numbers_of, HaveOwnNumbers, Extends, longer, shorter}, Rule.{Agrees, IsPlaced, Rests, IsHeld, IsUnderTurns}, Views.{HasAll, lone, seen_of, after_take, after_split, split_view, joined_view, spent_view}, declared.view.View.View}
-use Rattle.turn_table.proofs.Numbered.{put, put_here, put_else, find_here, find_else, found, some_or_none, find_same, below_length, there, starts_self, starts_nil, without_here, without_else, at_end, find_append, find_append_first, find_append_second, whole_prefix, distinct_end}
+use Rattle.turn_table.proofs.Numbered.{put, put_here, put_else, find_here, find_else, found, some_or_none, find_same, below_length, there, starts_self, starts_nil, without_here, without_else, at_end, find_append, find_append_first, find_append_second, whole_prefix, distinct_end, distinct_same, apart_both, apart_without}
 
 module _ {Cell Actor Entry : Type 0} (invariant : List Cell → List Actor → Type 0) (log_at : ℕ) (log : Cell → List Entry) (needs : Actor → ℕ → Type 0) (count : ℕ) where
   abbrev V : Type 0
@@ -101,12 +101,13 @@ module _ {Cell Actor Entry : Type 0} (invariant : List Cell → List Actor → T
                 (λ (t : (k ≢ k1) × (value_of v.held k1 ≡ some c1)). let q = still id v k1 c1 mine.1 t.1 in (q.1, q.2)) (found_w k1 c1 f);
             has = mine.1.has;
             distinct = distinct_end v.held k c free_k mine.1.distinct;
+            apart = mine.1.apart;
             own = mine.1.own;
             bare = λ e. absurd (active e);
             keep = λ i a j f n. let o = mine.1.keep i a j f n in (o.0, find_append_first v.held ((k, c) ∷ []) j o.0 o.1);
           },
         )
-            (λ j u ne e. let old = r.each_seat j u e in (old.0, record { holds = λ k1 c1 f. let q = still j u k1 c1 old.1 f in (q.1, q.2); has = old.1.has; distinct = old.1.distinct; own = old.1.own; bare = old.1.bare; keep = old.1.keep }));
+            (λ j u ne e. let old = r.each_seat j u e in (old.0, record { holds = λ k1 c1 f. let q = still j u k1 c1 old.1 f in (q.1, q.2); has = old.1.has; distinct = old.1.distinct; apart = old.1.apart; own = old.1.own; bare = old.1.bare; keep = old.1.keep }));
         each_count = seats_stay (λ (j : ℕ) (u : V). u.actors ≢ [] → (u.cell_count ≡ length r.cells) × (u.actor_count ≡ length r.actors)) s.views id w (r.each_count id v at) (λ j u ne e. r.each_count j u e);
         each_actor = λ i a e. let old = r.each_actor i a e in moved (λ (u : V). value_of u.actors i ≡ some a) s.views id (r.home i) v w old.0 at old.1 old.2 (λ q. ap (λ (u : V). value_of u.actors i) (sym q) ∙ old.2);
         each_known = seats_stay (λ (j : ℕ) (u : V). HasAll count u → (k1 : ℕ) (c1 : Cell) → value_of u.known k1 ≡ some c1 → get_elem? r.cells k1 ≡ some c1) s.views id w
@@ -189,6 +190,7 @@ module _ {Cell Actor Entry : Type 0} (invariant : List Cell → List Actor → T
                 (h.0, word_else s.words k k1 0 (λ q. ne (sym q)) ∙ (h.1 ∙ ap (λ (n : ℕ). n + 1) (sym as_number)));
             has = λ i a f. let o = find_same w.actors v.actors i a as_actors f in mine.1.has i o.0 o.1;
             distinct = distinct'.1;
+            apart = distinct_same v.actors w.actors (sym as_actors) mine.1.apart;
             own = λ _. let o = mine.1.own active in let p = find_same v.actors w.actors v.number o.0 (sym as_actors) o.1 in (p.0, ap (value_of w.actors) as_number ∙ p.1);
             bare = λ e. absurd (let o = mine.1.own active in let p = find_same v.actors w.actors v.number o.0 (sym as_actors) o.1 in some-ne-none p.0 (sym p.1 ∙ ap (λ (ps : List (ℕ × Actor)). value_of ps v.number) e));
             keep = keep_left;
@@ -206,6 +208,7 @@ module _ {Cell Actor Entry : Type 0} (invariant : List Cell → List Actor → T
                 holds = λ k1 c1 f. let h = old.1.holds k1 c1 f in (h.0, word_else s.words k k1 0 (λ q. ne (sym h.0 ∙ (ap r.holder q ∙ holds_k))) ∙ h.1);
                 has = old.1.has;
                 distinct = old.1.distinct;
+                apart = old.1.apart;
                 own = old.1.own;
                 bare = old.1.bare;
                 keep = old.1.keep;
@@ -259,6 +262,7 @@ module _ {Cell Actor Entry : Type 0} (invariant : List Cell → List Actor → T
             holds = λ k1 c1 f. let h = mine.1.holds k1 c1 (ap (λ (ps : List (ℕ × Cell)). value_of ps k1) (sym as_held) ∙ f) in (h.0, h.1 ∙ ap (λ (n : ℕ). n + 1) (sym as_number));
             has = λ i a f. mine.1.has i a (ap (λ (ps : List (ℕ × Actor)). value_of ps i) (sym as_actors) ∙ f);
             distinct = subst HaveOwnNumbers (sym as_held) mine.1.distinct;
+            apart = subst HaveOwnNumbers (sym as_actors) mine.1.apart;
             own = λ n. let o = mine.1.own (λ e. n (as_actors ∙ e)) in (o.0, (λ i. value_of (as_actors i) (as_number i)) ∙ o.1);
             bare = λ e. as_held ∙ mine.1.bare (sym as_actors ∙ e);
             keep = λ i a j f n. let o = mine.1.keep i a j (ap (λ (ps : List (ℕ × Actor)). value_of ps i) (sym as_actors) ∙ f) n in (o.0, ap (λ (ps : List (ℕ × Cell)). value_of ps j) as_held ∙ o.1);
@@ -317,6 +321,7 @@ module _ {Cell Actor Entry : Type 0} (invariant : List Cell → List Actor → T
                 holds = mine.1.holds;
                 has = λ i b f. let ne = not_gone i b f in put_else r.home n (length s.views) i ne ∙ mine.1.has i b (sym (without_else v.actors n i ne) ∙ f);
                 distinct = mine.1.distinct;
+                apart = apart_without v.actors n mine.1.apart;
                 own = λ _. still_own;
                 bare = λ e. absurd (still_active e);
                 keep = λ i b j f m. mine.1.keep i b j (sym (without_else v.actors n i (not_gone i b f)) ∙ f) m;
@@ -328,6 +333,7 @@ module _ {Cell Actor Entry : Type 0} (invariant : List Cell → List Actor → T
                 holds = old.1.holds;
                 has = λ i b f. let h = old.1.has i b f in put_else r.home n (length s.views) i (λ q. ne (sym h ∙ (ap r.home q ∙ mine.1.has n a has_n))) ∙ h;
                 distinct = old.1.distinct;
+                apart = old.1.apart;
                 own = old.1.own;
                 bare = old.1.bare;
                 keep = old.1.keep;
@@ -347,6 +353,7 @@ module _ {Cell Actor Entry : Type 0} (invariant : List Cell → List Actor → T
                 has = λ i b f. ⊎_elim (λ (t : (n ≡ i) × (a ≡ b)). ap home' (sym t.0) ∙ (put_here r.home n (length s.views) ∙ (sym long ∙ sym h.0))) (λ (t : (n ≢ i) × (value_of [] i ≡ some b)). absurd (some-ne-none b (sym t.1)))
                     (found [] n i a b (ap (λ (ps : List (ℕ × Actor)). value_of ps i) (sym lone_is) ∙ f));
                 distinct = tt;
+                apart = subst HaveOwnNumbers (sym lone_is) (refl, tt);
                 own = λ _. (a, ap (λ (ps : List (ℕ × Actor)). value_of ps n) lone_is ∙ find_here [] n a);
                 bare = λ _. refl;
                 keep = λ i b j f m. absurd (⊎_elim (λ (t : (n ≡ i) × (a ≡ b)). free j (subst (λ (z : Actor). needs z j) (sym t.1) m)) (λ (t : (n ≢ i) × (value_of [] i ≡ some b)). some-ne-none b (sym t.1))
@@ -432,6 +439,7 @@ module _ {Cell Actor Entry : Type 0} (invariant : List Cell → List Actor → T
             holds = λ k1 c1 f. absurd (some-ne-none c1 (sym f));
             has = λ i b f. absurd (some-ne-none b (sym f));
             distinct = tt;
+            apart = tt;
             own = λ n. absurd (n refl);
             bare = λ _. refl;
             keep = λ i b j f m. absurd (some-ne-none b (sym f));
@@ -451,6 +459,7 @@ module _ {Cell Actor Entry : Type 0} (invariant : List Cell → List Actor → T
                 holds = mine.1.holds;
                 has = λ i b f. ⊎_elim (λ (t : value_of v.actors i ≡ some b). home_id i (mine.1.has i b t)) (λ (t : value_of w.actors i ≡ some b). home_other i (theirs.1.has i b t)) (find_append v.actors w.actors i b f);
                 distinct = mine.1.distinct;
+                apart = apart_both v.actors w.actors (λ i a b f g. apart (sym (theirs.1.has i b g) ∙ mine.1.has i a f)) mine.1.apart theirs.1.apart;
                 own = λ _. let o = mine.1.own active in (o.0, find_append_first v.actors w.actors v.number o.0 o.1);
                 bare = λ q. absurd (let o = mine.1.own active in some-ne-none o.0 (sym (find_append_first v.actors w.actors v.number o.0 o.1) ∙ ap (λ (ps : List (ℕ × Actor)). value_of ps v.number) q));
                 keep = λ i b j f m. ⊎_elim (λ (t : value_of v.actors i ≡ some b). mine.1.keep i b j t m)
@@ -463,6 +472,7 @@ module _ {Cell Actor Entry : Type 0} (invariant : List Cell → List Actor → T
                 holds = old.1.holds;
                 has = λ i b f. let h = old.1.has i b f in home_else i (λ q. not_other (sym h ∙ q)) ∙ h;
                 distinct = old.1.distinct;
+                apart = old.1.apart;
                 own = old.1.own;
                 bare = old.1.bare;
                 keep = old.1.keep;

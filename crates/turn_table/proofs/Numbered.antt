@@ -115,7 +115,7 @@ module _ {A : Type 0} where
       (λ (here : p.0 ≡ j). subst (λ (z : ℕ). value_of (p ∷ without ps k) z ≡ value_of (p ∷ ps) z) here (find_here (without ps k) p.0 p.1 ∙ sym (find_here ps p.0 p.1)))
       (λ (other : p.0 ≢ j). find_else (without ps k) p.0 j p.1 other ∙ (without_else ps k j h ∙ sym (find_else ps p.0 j p.1 other))))
 
-  apart_without : (ps : List (ℕ × A)) (k : ℕ) → HaveOwnNumbers ps → HaveOwnNumbers (without ps k)
+  pub apart_without : (ps : List (ℕ × A)) (k : ℕ) → HaveOwnNumbers ps → HaveOwnNumbers (without ps k)
   apart_without [] k d = tt
   apart_without (p ∷ ps) k d = dite (ℕ_discrete p.0 k)
       (λ (same : p.0 ≡ k). subst (λ (b : Bool). HaveOwnNumbers (cond b (without ps k) (p ∷ without ps k))) (sym (eq-eqb p.0 k same)) (apart_without ps k d.1))
@@ -191,6 +191,31 @@ module _ {A : Type 0} where
   distinct_end (p ∷ ps) k x n d = dite (ℕ_discrete p.0 k)
       (λ (same : p.0 ≡ k). absurd (some-ne-none p.1 (sym (find_here ps p.0 p.1) ∙ (ap (value_of (p ∷ ps)) same ∙ n))))
       (λ (ne : p.0 ≢ k). (find_append_second ps ((k, x) ∷ []) p.0 d.0 ∙ find_else [] k p.0 x (λ q. ne (sym q)), distinct_end ps k x (sym (find_else ps p.0 k p.1 ne) ∙ n) d.1))
+
+  -- two lists behind one another, of which no number is in both
+  pub apart_both : (ps qs : List (ℕ × A)) → ((i : ℕ) (x y : A) → value_of ps i ≡ some x → value_of qs i ≡ some y → ⊥) → HaveOwnNumbers ps → HaveOwnNumbers qs → HaveOwnNumbers (ps ++ qs)
+  apart_both [] qs f d e = e
+  apart_both (p ∷ ps) qs f d e = (
+    find_append_second ps qs p.0 d.0 ∙ elim (some_or_none (value_of qs p.0)) [
+      | inl t ↦ absurd (f p.0 p.1 t.0 (find_here ps p.0 p.1) t.1)
+      | inr n ↦ n
+    ],
+    apart_both ps qs
+        (λ i x y a b. dite (ℕ_discrete p.0 i)
+        (λ (same : p.0 ≡ i). some-ne-none x (sym a ∙ (ap (value_of ps) (sym same) ∙ d.0)))
+        (λ (ne : p.0 ≢ i). f i x y (find_else ps p.0 i p.1 ne ∙ a) b))
+        d.1 e,
+  )
+
+  -- and no number is in both where no number stands twice
+  pub both_apart : (ps qs : List (ℕ × A)) → HaveOwnNumbers (ps ++ qs) → (i : ℕ) (x y : A) → value_of ps i ≡ some x → value_of qs i ≡ some y → ⊥
+  both_apart [] qs d i x y a b = some-ne-none x (sym a)
+  both_apart (p ∷ ps) qs d i x y a b = dite (ℕ_discrete p.0 i)
+      (λ (same : p.0 ≡ i). elim (some_or_none (value_of ps i)) [
+        | inl t ↦ some-ne-none t.0 (sym (find_append_first ps qs i t.0 t.1) ∙ (ap (value_of (ps ++ qs)) (sym same) ∙ d.0))
+        | inr n ↦ some-ne-none y (sym b ∙ (sym (find_append_second ps qs i n) ∙ (ap (value_of (ps ++ qs)) (sym same) ∙ d.0)))
+      ])
+      (λ (ne : p.0 ≢ i). both_apart ps qs d.1 i x y (sym (find_else ps p.0 i p.1 ne) ∙ a) b)
 
   -- of two beginnings of one list the shorter begins the longer
   pub prefix_two : (xs ys r q : List A) → r ++ xs ≡ q ++ ys → length xs ≤ length ys → Extends ys xs

@@ -1,12 +1,12 @@
 -- The rule holds at the start, and what it says at the end.
-use Rattle.std.proofs.Common.{◌≡◌, ◌≢◌, ℕ, zero, suc, ◌+◌, ◌-◌, ◌<◌, List, [], ◌∷◌, map, replicate, length, get_or, false, sym, refl, ap, ◌∙◌, subst, ⊎_elim, inl, arith, Option, Some}
+use Rattle.std.proofs.Common.{◌≡◌, ◌≢◌, ℕ, zero, suc, ◌+◌, ◌-◌, ◌<◌, List, [], ◌∷◌, map, replicate, length, get_or, false, sym, refl, ap, ◌∙◌, subst, ⊎_elim, inl, inr, arith, Option, Some}
 use mathlib.Core.Option.{none, some, some-ne-none, some-injective}
 use mathlib.Core.Option as maybe
 use lib.ListN.{get_elem?, length-map, length-replicate}
 use Rattle.atomic_table.specs.Table.{State, Me, opening, Final, Seen}
 use Rattle.atomic_table.proofs.Lists.{at_map}
-use Rattle.turn_table.specs.{Law.IsClosed, Numbered.{value_of, numbers_of, with_numbers, Extends}, Rule.{Agrees, IsPlaced, Rests, IsHeld, IsUnderTurns}, Seat.IsSeated, Views.{HasAll, seen_of, first_view}, declared.view.View.View}
-use Rattle.turn_table.proofs.{Allowed.{only_active, all_seen, possible}, Numbered.{find_here, find_else, found, there, starts_self, starts_nil}}
+use Rattle.turn_table.specs.{Law.IsClosed, Numbered.{value_of, numbers_of, HaveOwnNumbers, with_numbers, Extends}, Rule.{Agrees, IsPlaced, Rests, IsHeld, IsUnderTurns}, Seat.IsSeated, Views.{HasAll, seen_of, first_view}, declared.view.View.View}
+use Rattle.turn_table.proofs.{Allowed.{only_active, all_seen, possible}, Numbered.{find_here, find_else, found, some_or_none, there, starts_self, starts_nil}}
 
 module _ {A : Type 0} where
   numbered_at : (n : ℕ) (xs : List A) (i : ℕ) (a : A) → value_of (with_numbers n xs) i ≡ some a → (j : ℕ) × (i ≡ n + j) × (get_elem? xs j ≡ some a)
@@ -27,6 +27,17 @@ module _ {A : Type 0} where
 
   pub numbered_find : (xs : List A) (i : ℕ) (a : A) → get_elem? xs i ≡ some a → value_of (with_numbers 0 xs) i ≡ some a
   numbered_find xs i a e = let z : i ≡ 0 + i = omega arith in ap (value_of (with_numbers 0 xs)) z ∙ numbered_has 0 xs i a e
+
+  -- nothing before the first number has a place
+  numbered_before : (n : ℕ) (xs : List A) (i : ℕ) → i < n → value_of (with_numbers n xs) i ≡ none
+  numbered_before n xs i low = elim (some_or_none (value_of (with_numbers n xs) i)) [
+    | inl t ↦ absurd (let u = numbered_at n xs i t.0 t.1 in let e : i ≡ n + u.0 = u.1 in omega arith)
+    | inr e ↦ e
+  ]
+
+  pub numbered_apart : (n : ℕ) (xs : List A) → HaveOwnNumbers (with_numbers n xs)
+  numbered_apart n [] = tt
+  numbered_apart n (x ∷ xs) = (numbered_before (n + 1) xs n (omega arith), numbered_apart (n + 1) xs)
 
 get_or_replicate : (n k : ℕ) → get_or (replicate {A = ℕ} n 0) k 0 ≡ 0
 get_or_replicate zero k = refl
@@ -75,6 +86,7 @@ module _ {Cell Actor Entry : Type 0} (invariant : List Cell → List Actor → T
             holds = λ k c f. absurd (some-ne-none c (sym f));
             has = λ i a f. refl;
             distinct = tt;
+            apart = numbered_apart 0 actors;
             own = λ _. let b = there actors (length actors - 1) (omega arith) in (b.0, numbered_find actors (length actors - 1) b.0 b.1);
             bare = λ e. absurd (active e);
             keep = λ i a j f n. absurd (idle i a j (numbered_own actors i a f) n);

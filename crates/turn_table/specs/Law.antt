@@ -76,10 +76,10 @@ abbrev pub GaveBack : {Cell Actor Entry : Type 0} → (List Cell → List Actor 
     → Step (Option Cell) → Me (Option Cell) (View Cell Actor Entry) → ℕ → Me (Option Cell) (View Cell Actor Entry) → Type 0
 GaveBack invariant log_at log needs next st m n m' = (m' ≡ (next m.0, rest m.1)) × IsPossible invariant log_at log needs m'.0 × Extends m'.0.seen m.0.seen
 
--- nothing changes
+-- nothing changes, and no actor is twice with the seat
 abbrev pub Looked : {Cell Actor Entry : Type 0} → (List Cell → List Actor → Type 0) → ℕ → (Cell → List Entry) → (Actor → ℕ → Type 0)
     → Step (Option Cell) → Me (Option Cell) (View Cell Actor Entry) → ℕ → Me (Option Cell) (View Cell Actor Entry) → Type 0
-Looked invariant log_at log needs st m n m' = (m' ≡ m) × IsPossible invariant log_at log needs m'.0 × Extends m.0.seen m.0.told
+Looked invariant log_at log needs st m n m' = (m' ≡ m) × IsPossible invariant log_at log needs m'.0 × Extends m.0.seen m.0.told × HaveOwnNumbers m.0.actors
 
 -- the picked view is that after a commit, in which the cell k has the slot that was taken last
 pub record IsCommit {Cell Actor Entry : Type 0} (log_at : ℕ) (log : Cell → List Entry) (needs : Actor → ℕ → Type 0) (change : Sight Cell Actor → List (ℕ × Cell) → ℕ → Actor → Actor → Type 0) (m : Me (Option Cell) (View Cell Actor Entry)) (next : View Cell Actor Entry → View Cell Actor Entry) (k : ℕ) : Type 0 where

@@ -19,6 +19,7 @@ pub record IsPlaced {Cell Actor Entry : Type 0} (needs : Actor → ℕ → Type 
   pub holds : (k : ℕ) (c : Cell) → value_of v.held k ≡ some c → (holder k ≡ j) × (slice_index words k ≡ v.number + 1)
   pub has : (i : ℕ) (a : Actor) → value_of v.actors i ≡ some a → home i ≡ j
   pub distinct : HaveOwnNumbers v.held
+  pub apart : HaveOwnNumbers v.actors
   -- a seat with an actor has the one of its own number, and one with none holds no cell
   pub own : v.actors ≢ [] → (a : Actor) × (value_of v.actors v.number ≡ some a)
   pub bare : v.actors ≡ [] → v.held ≡ []

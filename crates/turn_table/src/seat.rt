@@ -1,4 +1,7 @@
 //! A seat, with the actors and the cells that it has.
+ghost use Rattle.std.specs.Prelude.{◌≡◌};
+ghost use Rattle.turn_table.specs.Numbered.{HaveOwnNumbers};
+
 use crate::cores::Core;
 use crate::rule::Place;
 use arrayvec::ArrayVec;
@@ -29,4 +32,14 @@ impl<C: Core> Model for Seat<C> {
     ghost view = { λ s. record { table_id = s.place.table_id; lifted = s.lifted; ranks = s.row.items; view = s.place.me.0 } };
 
     ghost invariant = { λ s. IsTurned C.invariant C.log_at C.log C.needs s.place.table_id.words s.number s.ahead s.row.items s.lifted s.place.me };
+}
+
+impl<C: Core> Seat<C> {
+    /// The held cells, the first taken first, each with the rank that was told for it.
+    pub fn held(&self) -> &[(u32, Option<u8>)]
+        ensures ranks { result.now ≡ self.now.ranks }
+        ensures apart { HaveOwnNumbers self.now.ranks }
+    {
+        self.row.as_slice()
+    }
 }

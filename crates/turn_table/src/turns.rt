@@ -214,6 +214,8 @@ impl<C: Core> TurnTable<C> {
         requires idle { (i : ℕ) (a : C.Actor) → value_of other.view.actors i ≡ some a → C.idle a }
         ensures seat { seat.new ≡ record seat.old { view = joined_view seat.old.view other.view } }
         ensures lists { Extends seat.new.view.seen seat.old.view.seen × Extends seat.new.view.seen other.view.seen }
+        // No actor was with both.
+        ensures apart { (i : ℕ) (a b : C.Actor) → value_of seat.old.view.actors i ≡ some a → value_of other.view.actors i ≡ some b → ⊥ }
         ensures possible { IsPossible C.invariant C.log_at C.log C.needs seat.new.view }
     {
         let Seat {

@@ -48,22 +48,22 @@ each-not x f (z ∷ xs) = ((λ k. f z.number k), each-not x f xs)
 -- The state that a seat may be in.
 
 module _ {h : List Dimension} {v : View Cell Actor Event} {n : ℕ} {a : Actor} (one : HasActor h v n a) (p : CanBe v) where
-  abbrev w : World
+  abbrev pub w : World
   w = p.valid.world
 
-  is : IsWorld p.cells p.actors w
+  pub is : IsWorld p.cells p.actors w
   is = is-world p.cells p.actors w p.valid.is
 
-  me : w.actors n ≡ actor_of a
+  pub me : w.actors n ≡ actor_of a
   me = is.actor n one.last (p.agrees.own n one.last one.has) ∙ one.same
 
-  setting : (actor_of a).setting ≡ p.valid.setting
-  setting = ap (λ (z : ActorValue). z.setting) (sym me) ∙ p.valid.inv.holds.numbering.about n
+  pub setting-is : (actor_of a).setting ≡ p.valid.setting
+  setting-is = ap (λ (z : ActorValue). z.setting) (sym me) ∙ p.valid.inv.holds.numbering.about n
 
-  about : p.valid.setting.hierarchy ≡ h
-  about = ap (λ (s : Setting). s.hierarchy) (sym setting) ∙ one.about
+  pub about : p.valid.setting.hierarchy ≡ h
+  about = ap (λ (s : Setting). s.hierarchy) (sym setting-is) ∙ one.about
 
-  alone : (xs : List Exchange) (j : ℕ) (x : Actor) → j ≢ n → value_of v.actors j ≡ some x → Each (λ e. ¬ MustKeep (actor_of x) e.number) xs
+  pub alone : (xs : List Exchange) (j : ℕ) (x : Actor) → j ≢ n → value_of v.actors j ≡ some x → Each (λ e. ¬ MustKeep (actor_of x) e.number) xs
   alone xs j x ne has = each-not x (λ y k. one.others j x y ne has k) xs
 
   pub seen-of : IsSeen (sight v) w
@@ -91,7 +91,7 @@ module _ {h : List Dimension} {v : View Cell Actor Event} {n : ℕ} {a : Actor} 
       about = one.about;
       world = w;
       number = n;
-      inv = subst (λ (st : Setting). Inv st w) (sym setting) p.valid.inv;
+      inv = subst (λ (st : Setting). Inv st w) (sym setting-is) p.valid.inv;
       agrees = subst (λ (cs : List Change). Agrees w cs n (actor_of a)) (still-swaps row was (fill-for v.held row at.there)) (agrees (swaps row was was) (swaps-found v.held row was at.there));
     }
 
@@ -114,10 +114,10 @@ module _ {h : List Dimension} {v : View Cell Actor Event} {n : ℕ} {a : Actor} 
             sight = λ st u is_about inv seen. made.1 st u (sees st u is_about inv seen);
           }
 
-      -- the actor is about the same thing after it
-      pub about-after : (actor_of b).setting.hierarchy ≡ h
-      about-after =
+      -- the actor's setting is the same after it
+      pub setting-after : (actor_of b).setting ≡ (actor_of a).setting
+      setting-after =
           let kept : IsKept p.valid.setting kind n w (after w (changes_of (swaps row was (cells_for new row))) n (actor_of b)) p.valid.inv.ghost_of =
           went.makes.keeps p.valid.setting w n p.valid.inv.ghost_of about p.valid.inv.holds (agrees (swaps row was (cells_for new row)) (swaps-found v.held row (cells_for new row) at.there)) (went.sight p.valid.setting w n (sees p.valid.setting w about p.valid.inv seen-of)) in
           let now : (after w (changes_of (swaps row was (cells_for new row))) n (actor_of b)).actors n ≡ actor_of b = rw (eq-eqb n n refl) refl in
-          ap (λ (z : ActorValue). z.setting.hierarchy) (sym now) ∙ ap (λ (s : Setting). s.hierarchy) (kept.holds.numbering.about n) ∙ about
+          ap (λ (z : ActorValue). z.setting) (sym now) ∙ kept.holds.numbering.about n ∙ sym setting-is

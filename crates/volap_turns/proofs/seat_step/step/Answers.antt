@@ -3,9 +3,9 @@ use mathlib.Core.Option.{some}
 use Rattle.core_steps.specs.{Places.{things}}
 use Rattle.row_ledger.specs.declared.event.Event.{Event}
 use Rattle.turn_table.specs.{Law.sight, Numbered.{after_first, replace, value_of}, Seat.SeatValue, Views.after_commit, declared.view.View.View}
-use Rattle.volap_cell.specs.{Setting.ledger_cell, State.still, Steps.IsHere, Values.actor_of, declared.actor.Actor.Actor, declared.cell.Cell.Cell}
+use Rattle.volap_cell.specs.{Setting.{Setting, ledger_cell}, State.still, Steps.IsHere, Values.actor_of, declared.actor.Actor.Actor, declared.cell.Cell.Cell}
 use Rattle.volap_turns.specs.{Rows.{IsThere, cells_for}, Rule.{Goes, Needs, history_of}}
-use Rattle.volap_turns.proofs.{Ordered.over-held, Known.{about-after, event-of, here-of}, Turned.{as-ok, back-same, left-of, same-holds, stepped-holds, when-err, when-ok}}
+use Rattle.volap_turns.proofs.{Ordered.over-held, Known.{event-of, here-of, setting-after}, Turned.{as-ok, back-same, left-of, same-holds, stepped-holds, when-err, when-ok}}
 use Rattle.volap_turns.proofs.seat_step.step.Goals as goal
 
 pub made_over-made-requires-clause-here : goal.made_over-made-requires-clause-here
@@ -45,10 +45,12 @@ returns-then-is_ok-clause-holds g c =
     let ok = sym c.is_ok.ensures.value ∙ c.if-is_ok.true in
     let over = over-held c.lift.ensures.cells made.ensures in
     let seat = c.commit.ensures.seat ∙ ap (λ (z : SeatValue Cell Actor Event). let y : SeatValue Cell Actor Event = record { table_id = z.table_id; lifted = false; ranks = after_first z.ranks; view = after_commit ledger_cell history_of z.view new c.args.number b } in y) c.lift.ensures.seat in
-    stepped-holds holds c.commit.new.seat new b over.numbers (about-after holds.one holds.possible c.requires.at new b c.requires.sees (when-ok made.result.0 over.went ok)) seat c.commit.ensures.possible
+    stepped-holds holds c.commit.new.seat new b over.numbers
+    (ap (λ (s : Setting). s.hierarchy) (setting-after holds.one holds.possible c.requires.at new b c.requires.sees (when-ok made.result.0 over.went ok)) ∙ holds.one.about) seat c.commit.ensures.possible
 
 pub returns-then-is_ok-clause-went : goal.returns-then-is_ok-clause-went
 returns-then-is_ok-clause-went g c =
+    let holds = c.requires.holds in
     let made = c.made_over-made in
     let b = made.new.actor in
     let new = made.result.1 in
@@ -59,6 +61,7 @@ returns-then-is_ok-clause-went g c =
       same_numbers = over.numbers;
       went = when-ok made.result.0 over.went ok;
       told = when-ok made.result.0 over.told ok;
+      setting = setting-after holds.one holds.possible c.requires.at new b c.requires.sees (when-ok made.result.0 over.went ok);
       view = ap (λ (z : SeatValue Cell Actor Event). z.view) c.commit.ensures.seat ∙ ap (λ (z : SeatValue Cell Actor Event). after_commit ledger_cell history_of z.view new c.args.number b) c.lift.ensures.seat;
       ranks = ap (λ (z : SeatValue Cell Actor Event). z.ranks) c.commit.ensures.seat ∙ ap (λ (z : SeatValue Cell Actor Event). after_first z.ranks) c.lift.ensures.seat;
     })

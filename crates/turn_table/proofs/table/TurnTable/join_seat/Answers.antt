@@ -1,6 +1,8 @@
-use Rattle.std.proofs.Common.{rules, refl, ◌≤◌, ◌++◌, Option, subst, ◌≡◌, ◌≢◌, [], List, length, sym, ap, ◌∙◌}
+use Rattle.std.proofs.Common.{rules, refl, ◌≤◌, ◌++◌, ℕ, Option, subst, ◌≡◌, ◌≢◌, [], List, length, sym, ap, ◌∙◌}
+use mathlib.Core.Option.{some}
 use Rattle.atomic_table.specs.{Seated.TableId, Table.Me}
-use Rattle.turn_table.specs.{Law.IsPossible, Numbered.{Extends, longer}, Seat.{SeatValue, slots_of}, Views.joined_view, declared.view.View.View}
+use Rattle.turn_table.specs.{Law.IsPossible, Numbered.{Extends, HaveOwnNumbers, longer, value_of}, Seat.{SeatValue, slots_of}, Views.joined_view, declared.view.View.View}
+use Rattle.turn_table.proofs.Numbered.{both_apart}
 use Rattle.turn_table.proofs.Turned.{none_turned, moved_on}
 use Rattle.turn_table.proofs.{Allowed.{join_allowed, look_allowed}, Seats.{seated_together, joined_active, shorter_less, both_begin}}
 use Rattle.turn_table.proofs.table.TurnTable.join_seat.Goals as goal
@@ -44,3 +46,13 @@ returns-clause-lists g c =
     let mine : c.seat.inside.place.me.0.seen ≡ c.args.seat.now.view.seen = ap (λ (k : H). k.view.seen) c.seat.view_is in
     let theirs : c.other.inside.place.me.0.seen ≡ c.args.other.view.seen = ap (λ (k : H). k.view.seen) c.other.view_is in
     ((h.0.0, seen ∙ (h.0.1 ∙ ap (λ (l : E). h.0.0 ++ l) mine)), (h.1.0, seen ∙ (h.1.1 ∙ ap (λ (l : E). h.1.0 ++ l) theirs)))
+
+pub returns-clause-apart : goal.returns-clause-apart
+returns-clause-apart g c =
+    let V : Type 0 = View g.row.C-Cell.Denot g.row.C-Actor.Denot g.row.C-Entry.Denot in let H : Type 0 = SeatValue g.row.C-Cell.Denot g.row.C-Actor.Denot g.row.C-Entry.Denot in
+    let now : c.join_seat.new.seat.me.0 ≡ joined_view c.seat.inside.place.me.0 c.other.inside.place.me.0 = ap (λ m. m.0) c.join_seat.ensures.2 in
+    let mine : c.seat.inside.place.me.0.actors ≡ c.args.seat.now.view.actors = ap (λ (k : H). k.view.actors) c.seat.view_is in
+    let theirs : c.other.inside.place.me.0.actors ≡ c.args.other.view.actors = ap (λ (k : H). k.view.actors) c.other.view_is in
+    let A : Type 0 = List (ℕ × g.row.C-Actor.Denot) in
+    let P : A × A → Type 0 = λ z. (i : ℕ) (a b : g.row.C-Actor.Denot) → value_of z.0 i ≡ some a → value_of z.1 i ≡ some b → ⊥ in
+    subst P (λ i. (mine i, theirs i)) (both_apart c.seat.inside.place.me.0.actors c.other.inside.place.me.0.actors (subst (λ (v : V). HaveOwnNumbers v.actors) now c.load.ensures.2.3))
