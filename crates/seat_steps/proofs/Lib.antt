@@ -28,3 +28,5 @@ pub mod FullHeads
 pub mod RowsMade
 pub mod RowsDown
 pub mod RowsIn
+pub mod Grown
+pub mod Heard

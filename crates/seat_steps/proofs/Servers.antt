@@ -30,6 +30,10 @@ module _ (f : Floor) (p : Player) where
         let at : slice_index_or s.roles p.number (Session x) ≡ Session x = get_or_from_slice_get s.roles p.number (w.actors p.number).role (Session x) (i.numbering.role p.number is.there) ∙ ap (λ (a : ActorValue). a.role) is.actor ∙ role in
         subst (IsRoleOf s) at (i.numbering.setting.roles p.number (Session x) is.there)
 
+  -- the server of a session is one of those that are there
+  pub server-below : IsSeated f p → (x : ℕ) → (actor_of p.actor).role ≡ Session x → x < f.with.servers
+  server-below seated x role = (let it = around f p seated in below-same x _ _ (server-there it.0 it.1 it.2 x role) it.2.servers)
+
   -- in these cells are the desk and the image of the server
   pub books-are : IsSeated f p → (x : ℕ) → (actor_of p.actor).role ≡ Session x → f.with.servers < 2 ^ 8 → (desk image : ℕ) → desk ≡ 3 + f.with.servers + x → image ≡ image_cell x → AreBooksOf f p desk image
   books-are seated x role bytes desk image desk_is image_is =
@@ -38,7 +42,7 @@ module _ (f : Floor) (p : Player) where
       record {
         server = x;
         role = role;
-        low = below-same x _ _ low it.2.servers;
+        low = server-below seated x role;
         bytes = bytes;
         desk_is = desk_is;
         image_is = image_is;

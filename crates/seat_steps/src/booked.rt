@@ -24,7 +24,7 @@ pub(crate) const DESK: u8 = 4;
 
 const IMAGE: u8 = 5;
 
-const LEDGER: u8 = 8;
+pub(crate) const LEDGER: u8 = 8;
 
 /// The cells of the desk and of the image of a session's server.
 pub(crate) fn books_of(floor: &Floor, player: &Player) -> (u32, u32)

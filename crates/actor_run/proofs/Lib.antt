@@ -1,0 +1,13 @@
+pub mod PassAndSession
+pub mod Missing
+pub mod Seated
+pub mod Taken
+pub mod Given
+pub mod Opening
+pub mod Closing
+pub mod Chains
+pub mod Sessions
+pub mod Opened
+pub mod Ends
+pub mod Unknown
+pub mod Measured

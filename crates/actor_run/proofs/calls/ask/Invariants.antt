@@ -1,0 +1,6 @@
+use Rattle.std.proofs.Common.{◌≡◌}
+use Rattle.seat_steps.specs.Begins.{IsAsBefore}
+use Rattle.actor_run.proofs.calls.ask.Given as goal
+
+abbrev pub invariant-loop : goal.invariant-loop
+invariant-loop g l = IsAsBefore l.floor l.initial.player l.player × (l.asked ≡ l.initial.asked)

@@ -1,0 +1,24 @@
+use Rattle.std.proofs.Common.{ap}
+use Rattle.actor_run.proofs.Sessions.{as-before, can-begin, refused-later, told}
+use Rattle.volap_cell.specs.Values.{ActorValue}
+use Rattle.actor_run.proofs.calls.note.Goals as goal
+
+pub note_unknown-requires-clause-stands : goal.note_unknown-requires-clause-stands
+note_unknown-requires-clause-stands g c = c.requires.session.1.stands
+
+pub note_unknown-requires-clause-begins : goal.note_unknown-requires-clause-begins
+note_unknown-requires-clause-begins g c = can-begin c.args.floor.now c.requires.session.0 c.args.player.now c.requires.session.1
+
+pub refuse-requires : goal.refuse-requires
+refuse-requires g c = record { session = (c.requires.session.0, (as-before c.args.floor.now c.requires.session.0 c.args.player.now c.requires.session.1 c.note_unknown.new.player c.in-Err.ensures.same).session) }
+
+pub returns-in-Ok-clause-does : goal.returns-in-Ok-clause-does
+returns-in-Ok-clause-does g c server s = told c.args.floor.now server c.args.player.now c.note_unknown.new.player s c.args.dim c.in-Ok.ensures.noted
+
+pub returns-in-Ok-clause-seen : goal.returns-in-Ok-clause-seen
+returns-in-Ok-clause-seen g c = ap (λ (a : ActorValue). a.seen) c.in-Ok.ensures.noted.actor
+
+pub returns-in-Err-clause-does : goal.returns-in-Err-clause-does
+returns-in-Err-clause-does g c server s =
+    let before = as-before c.args.floor.now server c.args.player.now s c.note_unknown.new.player c.in-Err.ensures.same in
+    refused-later c.args.floor.now server c.args.player.now c.note_unknown.new.player c.refuse.new.player before (c.refuse.ensures.does server before.session)

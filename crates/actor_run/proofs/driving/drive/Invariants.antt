@@ -1,0 +1,5 @@
+use Rattle.actor_run.specs.Driving.{IsOpenSince}
+use Rattle.actor_run.proofs.driving.drive.Given as goal
+
+abbrev pub invariant-loop : goal.invariant-loop
+invariant-loop g l = IsOpenSince l.floor l.initial.player l.player

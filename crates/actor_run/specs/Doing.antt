@@ -1,0 +1,24 @@
+-- What a session's calls do at its seat, and how that ends.
+use Rattle.std.specs.Prelude.{ℕ, Bool, true, false, ◌⊎◌}
+use Rattle.actor_run.specs.Sessions.{BeganNothing, GoesOn, IsOneEvent, IsSession, SessionValue, session_of}
+use Rattle.row_ledger.specs.declared.event.Event.TheVariants.{Refused, Unknown}
+use Rattle.seat_steps.specs.declared.floor.{Floor.Floor, Player.Player}
+
+-- The seat is that of a session as before, which has gone on so.
+pub record HasDone (f : Floor) (Ends : SessionValue → SessionValue → Type 0) (server : ℕ) (was now : Player) : Type 0 where
+  pub session : IsSession f server now
+  pub goes : GoesOn (session_of f server was) (session_of f server now)
+  pub ends : Ends (session_of f server was) (session_of f server now)
+
+-- so it is where it was a session's, whatever its server
+abbrev pub Does : Floor → (SessionValue → SessionValue → Type 0) → Player → Player → Type 0
+Does f Ends was now = (server : ℕ) → IsSession f server was → HasDone f Ends server was now
+
+-- its command began nothing, or it is noted that it was refused
+abbrev pub HasRefused : SessionValue → SessionValue → Type 0
+HasRefused was now = BeganNothing was now ⊎ IsOneEvent (Refused was.number) was now
+
+-- it is noted that its command names what is not known, first in this dimension; else it was refused
+abbrev pub HasTold : Bool → ℕ → SessionValue → SessionValue → Type 0
+HasTold true dim was now = IsOneEvent (Unknown was.number was.server dim) was now
+HasTold false dim was now = HasRefused was now

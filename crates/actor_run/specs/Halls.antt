@@ -1,0 +1,39 @@
+-- How a hall opens and closes.
+use Rattle.std.specs.Prelude.{ℕ, ◌≡◌, ◌+◌, ◌<◌, ◌≤◌, List, [], ◌∷◌, ◌++◌, All, length}
+use Rattle.actor_run.specs.Passes.{AreAllIn, IsPassesOf, PassesValue}
+use Rattle.dim_hierarchy.specs.Dimension.{Dimension}
+use Rattle.row_ledger.specs.{Kept.IsOpeningHistory, declared.settings.Use.Use}
+use Rattle.seat_steps.specs.declared.floor.Floor.{Floor}
+use Rattle.volap_cell.specs.{Filling.setting_for, Numbering.IsSetting, Setting.{Setting, site_in}, declared.role.Role.{Role}, declared.role.Role.TheVariants.{Admin, Session}, declared.state.State.State}
+use Rattle.volap_turns.specs.Wholes.{HasHistory, IsWhole}
+
+-- what a hall with these roles is about; its own actor stands behind them
+abbrev pub hall_setting : List Dimension → Use → List Role → Setting
+hall_setting h with roles = setting_for h with (roles ++ Admin ∷ [])
+
+-- a role is a session's
+abbrev pub IsSession : Role → Type 0
+IsSession role = (server : ℕ) × (role ≡ Session server)
+
+-- The settings are in range, there is a dimension and one worker, and each role is that of a session of a server that is there.
+pub record IsHallFor (h : List Dimension) (with : Use) (roles : List Role) : Type 0 where
+  pub setting : IsSetting (hall_setting h with roles)
+  pub dims : 0 < length h
+  pub one_worker : with.workers ≡ 1
+  pub sessions : All IsSession roles
+  pub few : length roles ≤ 256
+
+-- All passes are in, and have seen the opening: one pull of each server.
+pub record HasOpened (h : List Dimension) (with : Use) (roles : List Role) (f : Floor) (p : PassesValue) : Type 0 where
+  pub hierarchy : f.hierarchy ≡ h
+  pub settings : f.with ≡ with
+  pub own : IsPassesOf f p
+  pub setting : p.setting ≡ hall_setting h with roles
+  pub all : AreAllIn p
+  pub opening : IsOpeningHistory (site_in p.setting) p.seen
+  pub pulls : length p.seen ≡ with.servers
+
+-- The state meets the invariant, and its history is what the passes have seen.
+pub record HasClosed (f : Floor) (p : PassesValue) (s : State) : Type 0 where
+  pub whole : IsWhole f.hierarchy s.cells.items s.actors.items
+  pub history : HasHistory s.cells.items s.actors.items p.seen

@@ -1,0 +1,120 @@
+-- What the calls of a session promise: of the history that it had seen and of the one that it has seen then, the newest event first.
+use Rattle.std.specs.Prelude.{ℕ, ℤ, ◌≡◌, ◌^◌, ◌<◌, ◌≤◌, ◌⊎◌, true, List, [], ◌∷◌, ◌++◌, length, position, is_none, Option, Some, None}
+use mathlib.Core.Option.{some}
+use Rattle.actor_run.specs.Passes.{PassValue}
+use Rattle.dim_hierarchy.specs.{Dimension.Dimension, Filter.{IsFilterNamed, picks}, Row.{IsCoordNamed, leaves}, declared.filter.{NamePick.NamePick, Pick.Pick}, declared.row.Coord.Coord}
+use Rattle.measure_agg.specs.Aggregate.{Aggregate}
+use Rattle.row_ledger.specs.{Past.event_at, Right.IsRight, Site.Site, declared.event.Event.Event}
+use Rattle.row_ledger.specs.declared.event.Event.TheVariants.{Acked, Answered, Asked, Begun, Failed, Refused, Unknown}
+use Rattle.script_run.specs.Places.{begins_of}
+use Rattle.actor_run.specs.declared.session.Asked.TheVariants as asked
+use Rattle.actor_run.specs.declared.session.Inserted.TheVariants as inserted
+use Rattle.actor_run.specs.declared.session.Asked.{Asked as AskedAnswer}
+use Rattle.actor_run.specs.declared.session.Inserted.{Inserted}
+use Rattle.seat_steps.specs.{Begins.row_at, Floors.Stands, declared.floor.{Floor.Floor, Player.Player}}
+use Rattle.turn_table.specs.Numbered.{Extends, value_of}
+use Rattle.volap_cell.specs.{ImageKinds.IsFree, Setting.{actor_count, site_in}, Values.actor_of, declared.actor.Actor.Actor, declared.role.Role.Role, declared.role.Role.TheVariants.Session}
+
+-- Sessions.
+
+pub record SessionValue : Type 0 where
+  pub floor : Floor
+  pub number : ℕ
+  pub server : ℕ
+  pub seen : List Event
+
+abbrev pub session_of : Floor → ℕ → Player → SessionValue
+session_of f server p = record { floor = f; number = p.number; server = server; seen = p.seat.view.seen }
+
+-- Between its calls a session has nothing open, its desk counts it, and it has noted no more than it has seen; that is right.
+pub record IsSession (f : Floor) (server : ℕ) (p : Player) : Type 0 where
+  pub stands : Stands f p
+  pub role : (actor_of p.actor).role ≡ Session server
+  pub free : IsFree (actor_of p.actor)
+  pub counted : (actor_of p.actor).counted ≡ true
+  pub alone : (j : ℕ) (x : Actor) → value_of p.seat.view.actors j ≡ some x → j ≡ p.number
+  pub noted : (actor_of p.actor).seen ≤ length p.seat.view.seen
+  pub few : actor_count (actor_of p.actor).setting < 2 ^ 16
+  pub right : IsRight (site_in (actor_of p.actor).setting) p.seat.view.seen
+
+-- a session, and how many events it has seen
+pub record IsSessionWith (f : Floor) (server : ℕ) (p : Player) (seen : ℕ) : Type 0 where
+  pub session : IsSession f server p
+  pub count : seen ≡ length p.seat.view.seen
+
+abbrev pub IsSessionRole : Role → Type 0
+IsSessionRole role = (server : ℕ) × (role ≡ Session server)
+
+-- it is the session of the pass, and has seen what that had or more
+pub record IsPassFor (f : Floor) (pass : PassValue) (s : SessionValue) : Type 0 where
+  pub floor : s.floor ≡ f
+  pub number : s.number ≡ pass.number
+  pub role : pass.role ≡ Session s.server
+  pub seen : Extends s.seen pass.seen
+
+-- the pass is that of the session, and has seen what that had or more
+abbrev pub session_for : PassValue → SessionValue → Type 0
+session_for pass s = (pass.number ≡ s.number) × (pass.role ≡ Session s.server) × Extends pass.seen s.seen
+
+-- what a hall's history is about
+abbrev pub site_of : Floor → Site
+site_of f = record { hierarchy = f.hierarchy; servers = f.with.servers; workers = f.with.workers }
+
+-- Calls.
+
+-- The session has seen what it had or more; that is right.
+pub record GoesOn (was now : SessionValue) : Type 0 where
+  pub same : now ≡ record was { seen = now.seen }
+  pub later : Extends now.seen was.seen
+  pub right : IsRight (site_of now.floor) now.seen
+
+-- Its command began with this event, at or past the end of what it had seen; it began nothing else.
+pub record Began (of : ℕ) (e : Event) (was now : SessionValue) : Type 0 where
+  pub past : length was.seen ≤ of
+  pub at : event_at now.seen of ≡ Some e
+  pub one : begins_of now.seen was.number ≡ begins_of was.seen was.number ++ of ∷ []
+
+-- the newest event that it has seen is this one
+abbrev pub IsNewest : Event → SessionValue → Type 0
+IsNewest e s = (older : List Event) × (s.seen ≡ e ∷ older)
+
+-- its command is over as it began, by the newest event, or it has begun nothing
+abbrev pub IsOneEvent : Event → SessionValue → SessionValue → Type 0
+IsOneEvent e was now = IsNewest e now × ((of : ℕ) × Began of e was now)
+
+abbrev pub BeganNothing : SessionValue → SessionValue → Type 0
+BeganNothing was now = begins_of now.seen was.number ≡ begins_of was.seen was.number
+
+-- An insert's row is that of these names and measures.
+
+pub record BeganInsert (of : ℕ) (names : List (List ℕ)) (measures : ℤ) (was now : SessionValue) : Type 0 where
+  pub at : Coord
+  pub named : IsCoordNamed was.floor.hierarchy names at
+  pub began : Began of (Begun was.number was.server (row_at of at measures)) was now
+
+abbrev pub EndsInsert : Inserted → List (List ℕ) → ℤ → SessionValue → SessionValue → Type 0
+EndsInsert (inserted.Ok of) names measures was now = BeganInsert of names measures was now × ((path : List ℕ) × IsNewest (Acked of path) now)
+EndsInsert (inserted.Unknown dim) names measures was now = (position is_none (leaves was.floor.hierarchy names) ≡ Some dim) × IsOneEvent (Unknown was.number was.server dim) was now
+EndsInsert inserted.NoMemory names measures was now =
+    BeganNothing was now ⊎ IsOneEvent (Refused was.number) was now ⊎ ((of : ℕ) × BeganInsert of names measures was now × IsNewest (Failed of) now)
+
+pub record DoesInsert (r : Inserted) (names : List (List ℕ)) (measures : ℤ) (was now : SessionValue) : Type 0 where
+  pub goes : GoesOn was now
+  pub ends : EndsInsert r names measures was now
+
+-- A query's filter is that of these picks.
+
+pub record BeganQuery (of : ℕ) (names : List NamePick) (was now : SessionValue) : Type 0 where
+  pub filter : List Pick
+  pub named : IsFilterNamed was.floor.hierarchy names filter
+  pub began : Began of (Asked was.number was.server filter) was now
+
+abbrev pub EndsQuery : AskedAnswer → List NamePick → SessionValue → SessionValue → Type 0
+EndsQuery (asked.Answer of agg) names was now = BeganQuery of names was now × IsNewest (Answered of agg) now
+EndsQuery (asked.Unknown dim) names was now = (position is_none (picks was.floor.hierarchy names) ≡ Some dim) × IsOneEvent (Unknown was.number was.server dim) was now
+EndsQuery asked.NoMemory names was now =
+    BeganNothing was now ⊎ IsOneEvent (Refused was.number) was now ⊎ ((of : ℕ) × BeganQuery of names was now × IsNewest (Failed of) now)
+
+pub record DoesQuery (r : AskedAnswer) (names : List NamePick) (was now : SessionValue) : Type 0 where
+  pub goes : GoesOn was now
+  pub ends : EndsQuery r names was now

@@ -1,0 +1,64 @@
+//! Waiting for a server's desk, asleep.
+ghost use Rattle.std.specs.Prelude.{◌≡◌, IfOk, vec_len};
+
+use std::alloc::{AllocError, Global};
+use std::sync::atomic::{AtomicU64, Ordering};
+use std::sync::{Condvar, Mutex, Wait};
+
+/// Who waits for a server's desk sleeps until its bell is rung, and whoever empties the desk rings it. No clause tells of it.
+// No ring is missed. Who waits read the count of rings before it looked at the desk, and counts itself among those who wait before
+// it compares the count again, under the lock. Who rings adds to the count first and then looks whether anybody waits. All
+// atomic steps have one order: so either the ringer sees the waiter, and tells it under the lock, or the waiter sees the ring.
+#[derive(Drop)]
+pub(crate) struct Bell {
+    rings: AtomicU64,
+    waiting: AtomicU64,
+    lock: Mutex<()>,
+    rung: Condvar,
+}
+
+/// As many bells.
+pub(crate) fn bells(alloc: Global, count: u8) -> Result<Vec<Bell>, AllocError>
+    ensures { IfOk result (λ v. vec_len v ≡ count) }
+{
+    let mut bells = Vec::new(alloc);
+    for _ in 0..count {
+        bells.push(Bell::new())?;
+    }
+    Ok(bells)
+}
+
+impl Bell {
+    fn new() -> Bell {
+        Bell {
+            rings: AtomicU64::new(0),
+            waiting: AtomicU64::new(0),
+            lock: Mutex::new(()),
+            rung: Condvar::new(),
+        }
+    }
+
+    /// How often it was rung, to be read before a look at the desk.
+    pub(crate) fn rings(&self) -> u64 {
+        self.rings.load(Ordering::SeqCst)
+    }
+
+    /// Wakes all who wait.
+    pub(crate) fn ring<R: Wait>(&self, rt: &R) {
+        self.rings.fetch_add(1, Ordering::SeqCst);
+        if self.waiting.load(Ordering::SeqCst) != 0 {
+            let _held = self.lock.lock(rt);
+            self.rung.notify_all();
+        }
+    }
+
+    /// Sleeps until it was rung more often than this.
+    pub(crate) fn wait_past<R: Wait>(&self, rt: &R, rings: u64) {
+        self.waiting.fetch_add(1, Ordering::SeqCst);
+        let woken = self
+            .rung
+            .wait_while(rt, self.lock.lock(rt), |_| self.rings() == rings);
+        drop(woken);
+        self.waiting.fetch_sub(1, Ordering::SeqCst);
+    }
+}

@@ -1,0 +1,84 @@
+//! A session's open command, to its end.
+ghost use Rattle.std.specs.Prelude.{◌≡◌};
+ghost use Rattle.actor_run.specs.Driving.{EndsSince, GoesSince, IsOpenSince};
+ghost use Rattle.seat_steps.specs.declared.floor.Player.{Player};
+
+use crate::bell::Bell;
+use seat_steps::{Did, End, Floor, Next, Player, go_on_at_part, go_on_with_command};
+use std::alloc::Global;
+use std::sync::Wait;
+use volap_cell::{Actor, Command, Work};
+use volap_io::Meet;
+
+/// The session goes on with its command until it ends: it makes the steps of its parts itself, and sleeps where its server's desk
+/// has the command of another session, or another actor is at the last part.
+pub(crate) fn drive<R: Wait + Sync, M: Meet>(
+    rt: &R,
+    alloc: Global,
+    floor: &Floor,
+    bell: &Bell,
+    player: &mut Player,
+    meet: &M,
+) -> End
+    requires open { IsOpenSince floor.now player.old player.old }
+    ensures ends { EndsSince floor.now result player.old player.new }
+{
+    for _ in rt.forever() {
+        match go_on(rt, alloc, floor, bell, player, meet) {
+            None => {}
+            Some(end) => return end,
+        }
+    }
+    unreachable!()
+}
+
+/// The session goes on with its command by one step. The answer is how it ended, if it did.
+fn go_on<R: Wait + Sync, M: Meet>(
+    rt: &R,
+    alloc: Global,
+    floor: &Floor,
+    bell: &Bell,
+    player: &mut Player,
+    meet: &M,
+) -> Option<End>
+    requires command { (start : Player) × IsOpenSince floor.now start player.old }
+    ensures goes { (start : Player) → IsOpenSince floor.now start player.old → GoesSince floor.now result start player.new }
+{
+    if player.actor.errand.is_some() {
+        match go_on_at_part(rt, alloc, floor, player) {
+            Did::Step => {}
+            Did::Visit => meet.pass(rt, 3),
+            Did::End => meet.pass(rt, 2),
+        }
+        return None;
+    }
+    if has_parts(&player.actor) {
+        meet.pass(rt, 0);
+        meet.pass(rt, 1);
+    }
+    let rings = bell.rings();
+    match go_on_with_command(rt, alloc, floor, player) {
+        Next::GoesOn => None,
+        Next::Waits => {
+            bell.wait_past(rt, rings);
+            None
+        }
+        Next::Ended(end) => {
+            bell.ring(rt);
+            Some(end)
+        }
+    }
+}
+
+/// Whether parts of the actor's command stand on a desk.
+fn has_parts(actor: &Actor) -> bool {
+    match &actor.command {
+        Some(
+            Command {
+                work: Work::Insert { routed, .. },
+                ..
+            },
+        ) => *routed,
+        _ => true,
+    }
+}

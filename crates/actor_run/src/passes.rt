@@ -1,0 +1,124 @@
+//! The passes of a hall.
+ghost use Rattle.std.specs.Prelude.{◌≡◌, ◌<◌, IfSome, IfNone, None, Some, get_or, length, set, vec_len, vec_capacity};
+ghost use Rattle.actor_run.specs.Passes.{HasGiven, HasTaken, IsOut, IsPassOf, IsPassesOf};
+
+use crate::hall::Hall;
+use seat_steps::Player;
+use std::marker::Model;
+use std::mem::{forget, replace};
+use turn_table::Seat;
+use volap_cell::Actor;
+use volap_turns::Volap;
+
+/// An actor of a hall, with nothing to do, and its seat, which holds no cell. Contracts see its table, its setting, its
+/// role, its number and the history that it has seen.
+#[derive(Drop)]
+pub struct Pass {
+    pub(crate) player: Player,
+}
+
+impl Model for Pass {
+    ghost use Rattle.dim_hierarchy.specs.Stored.{dimension_code};
+    ghost use Rattle.std.specs.Coded.{codes};
+    ghost use Rattle.actor_run.specs.Passes.{IsPass, PassValue, pass_of};
+
+    ghost Value = { PassValue };
+
+    ghost coded = { Prim.hlevel (codes, dimension_code) };
+
+    ghost view = { λ p. pass_of p.player };
+
+    ghost invariant = { λ p. IsPass p.player };
+}
+
+/// The passes of a hall, but for those that are out. Contracts see their table, their setting, the numbers that are out, and the
+/// history that they have seen together.
+#[derive(Drop)]
+pub struct Passes {
+    pub(crate) seat: Seat<Volap>,
+    /// The hall's own, whose number is behind those of the roles.
+    pub(crate) own: Actor,
+    /// By number; `None` where the pass is out.
+    pub(crate) actors: Vec<Option<Actor>>,
+}
+
+impl Model for Passes {
+    ghost use Rattle.dim_hierarchy.specs.Stored.{dimension_code};
+    ghost use Rattle.std.specs.Coded.{codes};
+    ghost use Rattle.std.specs.Prelude.{◌<◌, vec_len, vec_capacity};
+    ghost use Rattle.actor_run.specs.Passes.{ArePasses, PassesValue, passes_of};
+
+    ghost Value = { PassesValue };
+
+    ghost coded = { Prim.hlevel (codes, dimension_code) };
+
+    ghost view = { λ p. passes_of p.seat p.own p.actors.items };
+
+    // There is room for the hall's own, which is put behind the others at the end.
+    ghost invariant = { λ p. ArePasses p.seat p.own p.actors.items × (vec_len p.actors < vec_capacity p.actors) };
+}
+
+impl Passes {
+    /// Gives out the pass of the role at this place; `None` exactly where there is no such role, or its pass is out. Takes no memory.
+    pub fn take(&mut self, hall: &Hall, number: u16) -> Option<Pass>
+        requires own { IsPassesOf hall.now self.old }
+        ensures own { IsPassesOf hall.now self.new }
+        ensures some { IfSome result (HasTaken number self.old self.new) }
+        ensures of { IfSome result (IsPassOf hall.now) }
+        ensures none { IfNone result (IsOut number self.old) }
+        ensures same { IfNone result (self.new ≡ self.old) }
+    {
+        let number = u32::from(number);
+        let actor = taken(&mut self.actors, number)?;
+        let seat = hall.floor.table.split_seat(&mut self.seat, number);
+        Some(Pass {
+            player: Player {
+                number,
+                actor,
+                seat,
+            },
+        })
+    }
+
+    /// Puts a pass of the hall back. Takes no memory.
+    pub fn give(&mut self, hall: &Hall, pass: Pass)
+        requires own { IsPassesOf hall.now self.old }
+        requires of { IsPassOf hall.now pass }
+        ensures own { IsPassesOf hall.now self.new }
+        ensures given { HasGiven pass self.old self.new }
+    {
+        let Pass {
+            player: Player {
+                number,
+                actor,
+                seat,
+            },
+        } = pass;
+        hall.floor.table.join_seat(&mut self.seat, seat);
+        put(&mut self.actors, number, actor);
+    }
+}
+
+/// Takes out the actor at this place, if one stands there.
+fn taken(actors: &mut Vec<Option<Actor>>, number: u32) -> Option<Actor>
+    ensures some { IfSome result (λ x. (number < length actors.old.items) × (get_or actors.old.items number None ≡ Some x)) }
+    ensures none { IfNone result (get_or actors.old.items number None ≡ None) }
+    ensures now { actors.new.items ≡ set actors.old.items number None }
+    ensures room { (vec_len actors.new ≡ vec_len actors.old) × (vec_capacity actors.new ≡ vec_capacity actors.old) }
+{
+    let at = number as usize;
+    if at < actors.len() {
+        actors[at].take()
+    } else {
+        None
+    }
+}
+
+/// Puts an actor at its place, which is empty: nothing is dropped there.
+fn put(actors: &mut Vec<Option<Actor>>, number: u32, actor: Actor)
+    requires { number < length actors.old.items }
+    ensures now { actors.new.items ≡ set actors.old.items number (Some actor) }
+    ensures room { (vec_len actors.new ≡ vec_len actors.old) × (vec_capacity actors.new ≡ vec_capacity actors.old) }
+{
+    forget(replace(&mut actors[number as usize], Some(actor)));
+}

@@ -1,0 +1,159 @@
+//! The calls of a session.
+ghost use Rattle.std.specs.Prelude.{◌≡◌, length, All};
+ghost use Rattle.actor_run.specs.Passes.{IsPassOf};
+ghost use Rattle.actor_run.specs.Sessions.{DoesInsert, DoesQuery, IsPassFor, IsSessionRole, session_for};
+ghost use Rattle.dim_hierarchy.specs.Names.{IsNamePick};
+
+use crate::calls::{insert, query};
+use crate::hall::Hall;
+use crate::passes::Pass;
+use dim_hierarchy::{Measures, NameFilter, RowNames};
+use measure_agg::Agg;
+use seat_steps::{Player, come, empty_purse, hear, leave};
+use std::alloc::Global;
+use std::marker::Model;
+use std::sync::Wait;
+use volap_cell::Role;
+use volap_io::Meet;
+
+/// How an insert ended.
+#[derive(Clone, Copy)]
+pub enum Inserted {
+    /// It is acknowledged. It began with the event at this position.
+    Ok { of: u64 },
+    /// The first dimension whose name isn't that of a leaf concept.
+    Unknown { dim: u8 },
+    NoMemory,
+}
+
+/// How a query ended.
+#[derive(Clone, Copy)]
+pub enum Asked {
+    /// It began with the event at this position.
+    Answer { of: u64, agg: Agg },
+    /// The first dimension with a name that isn't that of a concept.
+    Unknown { dim: u8 },
+    NoMemory,
+}
+
+/// A session of a hall, which makes one command after the other. Contracts see its hall, its number, its server and the history that
+/// it has seen, the newest event first.
+#[derive(Drop)]
+pub struct Session<'a> {
+    pub(crate) hall: &'a Hall,
+    pub(crate) server: u8,
+    pub(crate) player: Player,
+    /// How many events it has seen.
+    pub(crate) seen: u64,
+}
+
+impl<'a> Model for Session<'a> {
+    ghost use Rattle.dim_hierarchy.specs.Stored.{dimension_code};
+    ghost use Rattle.std.specs.Coded.{codes};
+    ghost use Rattle.actor_run.specs.Sessions.{IsSessionWith, SessionValue, session_of};
+
+    ghost Value = { SessionValue };
+
+    ghost coded = { Prim.hlevel (codes, dimension_code) };
+
+    ghost view = { λ s. session_of s.hall.now s.server s.player };
+
+    ghost invariant = { λ s. IsSessionWith s.hall.now s.server s.player s.seen };
+}
+
+impl<'a> Session<'a> {
+    /// The session of a pass of the hall whose role is a session's. Its server's desk counts it from now on.
+    /// Takes no memory.
+    pub fn new<R: Wait>(rt: &R, hall: &'a Hall, pass: Pass) -> Session<'a>
+        requires of { IsPassOf hall.now pass }
+        requires role { IsSessionRole pass.role }
+        ensures made { IsPassFor hall.now pass result }
+    {
+        let Pass { mut player } = pass;
+        let Role::Session { server } = player.actor.role else {
+            unreachable!()
+        };
+        come(rt, hall.alloc, &hall.floor, &mut player);
+        let seen = hear(rt, &hall.floor, &mut player);
+        Session {
+            hall,
+            server,
+            player,
+            seen,
+        }
+    }
+
+    /// Inserts a row of these names, one for each dimension, and these measures.
+    pub fn insert<R: Wait + Sync, M: Meet>(
+        &mut self,
+        rt: &R,
+        alloc: Global,
+        names: &RowNames,
+        measures: Measures,
+        meet: &M,
+    ) -> Inserted
+        requires names { length names.now ≡ length self.old.floor.hierarchy }
+        ensures does { DoesInsert result names.now measures self.old self.new }
+    {
+        let hall = self.hall;
+        insert(
+            rt,
+            alloc,
+            &hall.floor,
+            hall.bell(self.server),
+            &mut self.player,
+            &mut self.seen,
+            names,
+            measures,
+            meet,
+        )
+    }
+
+    /// Asks for the aggregate of the rows that match these picks by name, one for each dimension.
+    pub fn query<R: Wait + Sync, M: Meet>(
+        &mut self,
+        rt: &R,
+        alloc: Global,
+        filter: &NameFilter,
+        meet: &M,
+    ) -> Asked
+        requires count { length filter.now ≡ length self.old.floor.hierarchy }
+        requires some { All IsNamePick filter.now }
+        ensures does { DoesQuery result filter.now self.old self.new }
+    {
+        let hall = self.hall;
+        query(
+            rt,
+            alloc,
+            &hall.floor,
+            hall.bell(self.server),
+            &mut self.player,
+            &mut self.seen,
+            filter,
+            meet,
+        )
+    }
+
+    /// How many events of the history the session has seen.
+    pub fn seen(&self) -> u64
+        ensures { result ≡ length self.now.seen }
+    {
+        self.seen
+    }
+
+    /// The session's pass again. Its server's desk counts it no more. Takes no memory.
+    pub fn end<R: Wait>(self, rt: &R) -> Pass
+        ensures of { IsPassOf self.entry.floor result }
+        ensures made { session_for result self.entry }
+    {
+        let Session {
+            hall,
+            server: _,
+            mut player,
+            seen: _,
+        } = self;
+        empty_purse(rt, hall.alloc, &hall.floor, &mut player);
+        leave(rt, hall.alloc, &hall.floor, &mut player);
+        Pass { player }
+    }
+}
