@@ -29,7 +29,7 @@ at-other (l ∷ loads) shard to x ne = (let rest = at-other loads shard to x ne 
     (λ k. rw (q, k) rest)))
 
 -- the same shards are among them
-has-moved : (loads : List Load) (shard to x : ℕ) → has_load (after_move loads shard to) x ≡ has_load loads x
+pub has-moved : (loads : List Load) (shard to x : ℕ) → has_load (after_move loads shard to) x ≡ has_load loads x
 has-moved [] shard to x = refl
 has-moved (l ∷ loads) shard to x = (let rest = has-moved loads shard to x in on_bool (l.shard == shard)
     (λ q. rw q (ap (λ (b : Bool). (l.shard == x) || b) rest))

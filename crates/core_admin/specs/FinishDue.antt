@@ -12,7 +12,7 @@ use Rattle.row_ledger.specs.declared.event.Event.TheVariants as event
 use Rattle.row_ledger.specs.declared.settings.How.TheVariants as how
 use Rattle.server_image.specs.Registry.{RegistryValue, IsRehosted, on_frontier}
 use Rattle.shard_store.specs.{Gate.IsQueueOf, declared.gate.Gate.Gate}
-use Rattle.volap_cell.specs.{AdminKinds.{HasFrozen, HasJob, IsGateFor, IsUpTo, Retires}, Cells.{CellValue, BlockCell, MapOf, TheLedger, TheRegistry, TheStock, tag_of}, Commands.stands_after, ImageKinds.doing, Planning.next_job, Values.{ActorValue, JobValue, BuildingValue, Builds}, declared.command.Balance.Balance, declared.command.Command.Command, declared.command.Work.Work, declared.job.Building.Building, declared.job.Job.Job, declared.job.Unbuilt.Unbuilt}
+use Rattle.volap_cell.specs.{AdminKinds.{HasFrozen, HasJob, IsGateFor, IsUpTo, Retires}, Cells.{CellValue, BlockCell, MapOf, TheLedger, TheRegistry, TheStock, tag_of}, Commands.stands_after, ImageKinds.doing, Planning.{HasLoadNext, next_job}, Values.{ActorValue, JobValue, BuildingValue, Builds}, declared.command.Balance.Balance, declared.command.Command.Command, declared.command.Work.Work, declared.job.Building.Building, declared.job.Job.Job, declared.job.Unbuilt.Unbuilt}
 use Rattle.volap_cell.specs.declared.command.Work.TheVariants as work_is
 use Rattle.volap_cell.specs.declared.job.Stage.TheVariants as stage_is
 use Rattle.core_image.specs.NotesDue.{GoesOn, MayGoOn}
@@ -55,6 +55,7 @@ pub record CanPostpone (stock ledger : CellValue) (a : ActorValue) : Type 0 wher
   pub is_job : a.job ≡ Some job
   pub frozen : HasFrozen job.stage
   pub few : (b : Balance) → work ≡ work_is.Balance b → b.over + 1 < 2 ^ 8
+  pub stands : (b : Balance) → work ≡ work_is.Balance b → HasLoadNext (record b { over = b.over + 1 })
   pub stock_is : tag_of stock ≡ TheStock
   pub ledger_is : tag_of ledger ≡ TheLedger
 
@@ -117,6 +118,7 @@ pub record IsBuiltUp (gate_at : ℕ) (registry stock ledger : CellValue) (a : Ac
   pub in_cells : building.unbuilt ≡ []
   pub here : building.frozen.gate ≡ gate_at
   pub few : (b : Balance) → work ≡ work_is.Balance b → b.over + 1 < 2 ^ 8
+  pub stands : (b : Balance) → work ≡ work_is.Balance b → HasLoadNext (record b { over = b.over + 1 })
   pub registry_is : tag_of registry ≡ TheRegistry
   pub stock_is : tag_of stock ≡ TheStock
   pub ledger_is : tag_of ledger ≡ TheLedger
@@ -238,6 +240,7 @@ CountsDone shard to command command_now = (of : ℕ) (b : Balance) → command �
 pub record MayGoOnDone (command : Option Command) (has_job : Bool) : Type 0 where
   pub count : MayCount command
   pub few : count.balance.over + 1 < 2 ^ 8
+  pub stands : HasLoadNext (record count.balance { over = count.balance.over + 1 })
   pub some : has_job ≡ true
 
 abbrev pub MayCloseDone : Bool → Option Command → Bool → Type 0

@@ -6,7 +6,7 @@ ghost use Rattle.shard_plan.specs.Balancing.{plan};
 ghost use Rattle.shard_plan.specs.declared.action.Load.{Load};
 ghost use Rattle.volap_cell.specs.AdminKinds.{rows_at};
 ghost use Rattle.volap_cell.specs.Cells.{cell_of};
-ghost use Rattle.volap_cell.specs.Planning.{job_for, next_job, worker_among};
+ghost use Rattle.volap_cell.specs.Planning.{HasLoadNext, next_job};
 ghost use Rattle.volap_cell.specs.Steps.{IsHere, Makes};
 ghost use Rattle.volap_cell.specs.Values.{actor_of, job_of};
 ghost use Rattle.volap_cell.specs.World.{change, held};
@@ -19,7 +19,7 @@ use shard_store::Gate;
 use std::alloc::Global;
 use std::mem;
 use tree_shape::tree_laws;
-use volap_cell::{ActionPlan, Actor, Balance, Cell, Command, Job, Stage, Work, gate_seen, lent};
+use volap_cell::{ActionPlan, Actor, Balance, Cell, Command, Job, Work, gate_seen, lent};
 
 /// Reads the next load of the actor's balance: the rows of tree and queue of the gate, to which the table of
 /// the load's worker leads. After the last load the actions are planned, for so many workers, and the job of
@@ -149,39 +149,10 @@ fn plan_among(
 
 /// The job of the action that a balance is at, if there is one, in this box.
 fn first_job(mut first: Box<Job>, balance: &Balance) -> Option<Box<Job>>
+    requires { HasLoadNext balance.now }
     ensures { option_map (λ j. job_of j.value) result ≡ next_job balance.now }
 {
     let action = balance.plan.get(balance.over)?;
-    *first = job_of_action(balance.standing.as_slice(), action);
+    *first = Job::of_action(balance.standing.as_slice(), action);
     Some(first)
-}
-
-/// The job of an action, at its beginning.
-fn job_of_action(standing: &[Load], action: Action) -> Job
-    ensures { job_of result ≡ job_for standing.now action }
-{
-    match action {
-        Action::Split { shard } => Job {
-            shard,
-            worker: worker_among(standing, shard),
-            to: None,
-            stage: Stage::Called,
-        },
-        Action::Move { shard, worker } => Job {
-            shard,
-            worker: worker_among(standing, shard),
-            to: Some(worker),
-            stage: Stage::Called,
-        },
-    }
-}
-
-/// The worker of a shard by these loads; 0 where none is of it.
-fn worker_among(standing: &[Load], shard: u32) -> u8
-    ensures { result ≡ worker_among standing.now shard }
-{
-    match standing.iter().find(|load| load.shard == shard) {
-        Some(load) => load.worker,
-        None => 0,
-    }
 }

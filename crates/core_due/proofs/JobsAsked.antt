@@ -6,7 +6,7 @@ use Rattle.core_admin.specs.FinishDue.{IsBuiltUp, IsMovedUp}
 use Rattle.core_due.specs.{Wants.{is_drained, last_noted}, Works.{action_due, balance_due, build_due, collect_by, finish_due, freeze_at, has_more, load_at, load_due, move_with, or_declined, stage_due}, WorksReady.{IsJobAsked, IsNoteAsked, IsWorkAsked, most_in}, declared.works.WorkDue.WorkDue}
 use Rattle.core_due.specs.declared.works.WorkDue.TheVariants.{Ends, Leaves}
 use Rattle.core_due.proofs.{EndsAsked.ended, LastItems.{found-last, found-none, none-noted, noted-last}, GatesLed.led-tag, Owned.map-tag, Tables.table-of}
-use Rattle.core_image.proofs.Commands.NextAction.{inside, next-action}
+use Rattle.core_image.proofs.Commands.NextAction.{inside, next-action, next-has-load}
 use Rattle.core_image.specs.NotesDue.{MayBeLeft}
 use Rattle.core_steps.specs.declared.jobs.JobStep.TheVariants as job
 use Rattle.core_steps.specs.declared.notes.NoteStep.TheVariants.{Left}
@@ -19,7 +19,7 @@ use Rattle.shard_plan.specs.{declared.action.Action.Action, declared.action.Load
 use Rattle.shard_store.specs.declared.gate.Phase.{Phase}
 use Rattle.shard_store.specs.declared.gate.Phase.TheVariants as phase
 use Rattle.volap_cell.proofs.Cells.Numbers.{is-map}
-use Rattle.volap_cell.specs.{Cells.{MapOf, active_in, phase_of, tag_of, where_in}, Commands.{EndsJob, EndsStage}, ImageKinds.doing, Invariant.InvWith, Planning.{job_for, next_job}, Setting.{Setting, ledger_cell, map_cell, registry_cell, stock_cell}, Steps.Inv, Values.{BuildingValue, Builds, CollectingValue, Collects, IsCalled, IsDeclined, IsFrozen, JobValue, StageValue}, View.view, Working.{IsJobOf, begun_job, frozen_in}, World.World, declared.command.Balance.Balance, declared.command.Command.Command, declared.command.Work.Work, declared.job.Frozen.Frozen}
+use Rattle.volap_cell.specs.{Cells.{MapOf, active_in, phase_of, tag_of, where_in}, Commands.{EndsJob, EndsStage}, ImageKinds.doing, Invariant.InvWith, Planning.{HasLoadNext, job_for, next_job}, Setting.{Setting, ledger_cell, map_cell, registry_cell, stock_cell}, Steps.Inv, Values.{BuildingValue, Builds, CollectingValue, Collects, IsCalled, IsDeclined, IsFrozen, JobValue, StageValue}, View.view, Working.{IsJobOf, begun_job, frozen_in}, World.World, declared.command.Balance.Balance, declared.command.Command.Command, declared.command.Work.Work, declared.job.Frozen.Frozen}
 use Rattle.volap_cell.specs.declared.command.Work.TheVariants as work_is
 
 -- The queue as it was when the shard was frozen.
@@ -66,6 +66,10 @@ module _ (s : Setting) (w : World) (inv : Inv s w) (n of : ℕ) (work : Work) (c
       let lt_all = inside b.over actions a here in
       omega (arith, most, few, at_most, lt_all)
 
+  -- the shard of the action behind it is among the loads
+  pub next-stands : (b : Balance) → work ≡ work_is.Balance b → HasLoadNext (record b { over = b.over + 1 })
+  next-stands b its = next-has-load s (view s w).history inv.ghost_of.placed of b (i.balancing.balance n of b (command ∙ ap (doing of) its)).planned
+
   -- the balance leaves the action that it is at
   pub left-asked : (b : Balance) → work ≡ work_is.Balance b → (x : JobValue) → (w.actors n).job ≡ Some x → MayBeLeft x.stage → IsNoteAsked s w n Left
   left-asked b its x is_job left = record {
@@ -76,6 +80,7 @@ module _ (s : Setting) (w : World) (inv : Inv s w) (n of : ℕ) (work : Work) (c
     job_is = is_job;
     left = left;
     few = over-few b its x is_job;
+    stands = next-stands b its;
     ledger_is = i.numbering.tag ledger_cell;
   }
 
@@ -135,6 +140,7 @@ module _ (s : Setting) (w : World) (inv : Inv s w) (n of : ℕ) (work : Work) (c
       in_cells = built;
       here = refl;
       few = λ balance is. over-few balance is x is_job;
+      stands = next-stands;
       registry_is = i.numbering.tag registry_cell;
       stock_is = i.numbering.tag stock_cell;
       ledger_is = i.numbering.tag ledger_cell;

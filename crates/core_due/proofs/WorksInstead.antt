@@ -2,7 +2,7 @@
 use Rattle.std.proofs.Common.{ℕ, ◌≡◌, ◌<◌, ◌∙◌, true, false, Option, Some, None, refl, sym, ap, subst}
 use Rattle.core_due.specs.{WorksReady.{AreBytes, IsBookAsked, IsInsteadPrepared, IsJobAsked, IsJobPrepared, IsNotePrepared, IsStopFor, IsWorkAsked}, declared.works.WorkDue.WorkDue}
 use Rattle.core_due.specs.declared.works.WorkDue.TheVariants.{Books, Ends, Jobs, Leaves, Shows, Splits, Takes}
-use Rattle.core_due.proofs.{BooksHeld.{book-prepared, end-prepared, leave-prepared}, EndsAsked.ended, Holding.there, JobsAsked.{left-asked, over-few}, JobsHeld.job-prepared}
+use Rattle.core_due.proofs.{BooksHeld.{book-prepared, end-prepared, leave-prepared}, EndsAsked.ended, Holding.there, JobsAsked.{left-asked, next-stands, over-few}, JobsHeld.job-prepared}
 use Rattle.core_image.proofs.EachStep.SyncsImage.{settle-goes}
 use Rattle.core_image.specs.NotesDue.{MayBeLeft}
 use Rattle.core_steps.specs.{declared.books.BookStep.BookStep, declared.jobs.JobStep.JobStep}
@@ -56,6 +56,7 @@ module _ (s : Setting) (w : World) (inv : Inv s w) (n of : ℕ) (work : Work) (c
     is_job = has.is_job;
     frozen = subst HasFrozen (sym has.stage_is) frozen;
     few = λ b its. over-few s w inv n of work command bytes.actions b its x has.is_job;
+    stands = next-stands s w inv n of work command bytes.actions;
     stock_is = inv.holds.numbering.tag stock_cell;
     ledger_is = inv.holds.numbering.tag ledger_cell;
   })

@@ -7,7 +7,7 @@ use Rattle.query_router.specs.declared.part.Verdict.TheVariants as verdict
 use Rattle.row_ledger.specs.{Classes.class_of, LedgerValue.LedgerValue, Right.Asks, declared.class.Class.Class, declared.event.Event.Event, declared.event.Event.TheVariants.Ended, declared.page.Page.Page, declared.settings.Call.Call, declared.settings.How.How}
 use Rattle.row_ledger.specs.declared.class.Class.TheVariants as class
 use Rattle.server_image.specs.{Image.ImageValue, Registry.RegistryValue}
-use Rattle.volap_cell.specs.{Cells.{CellValue, DeskOf, ImageOf, TheLedger, TheRegistry, desk_in, ledger_in, tag_of}, Commands.{MayCall, MayNoteEnd, once_shown}, ImageKinds.{IsBegun, IsFree, asks_registry, doing}, Planning.next_job, Values.{ActorValue, JobValue, StageValue, IsCalled, IsDeclined}, declared.command.Balance.Balance, declared.command.Command.Command, declared.command.Work.Work, declared.command.Work.TheVariants.{Insert, Query}, declared.role.Role.TheVariants.Session}
+use Rattle.volap_cell.specs.{Cells.{CellValue, DeskOf, ImageOf, TheLedger, TheRegistry, desk_in, ledger_in, tag_of}, Commands.{MayCall, MayNoteEnd, once_shown}, ImageKinds.{IsBegun, IsFree, asks_registry, doing}, Planning.{HasLoadNext, next_job}, Values.{ActorValue, JobValue, StageValue, IsCalled, IsDeclined}, declared.command.Balance.Balance, declared.command.Command.Command, declared.command.Work.Work, declared.command.Work.TheVariants.{Insert, Query}, declared.role.Role.TheVariants.Session}
 use Rattle.volap_cell.specs.declared.command.Work.TheVariants as work_is
 
 -- a ledger gets an event, with so many promises more or less, and holds no more than it may
@@ -152,6 +152,7 @@ pub record CanNoteLeft (ledger : CellValue) (a : ActorValue) : Type 0 where
   pub job_is : a.job ≡ Some job
   pub left : MayBeLeft job.stage
   pub few : balance.over + 1 < 2 ^ 8
+  pub stands : HasLoadNext (record balance { over = balance.over + 1 })
   pub ledger_is : tag_of ledger ≡ TheLedger
 
 -- the command is a balance with an action that it is at, and there is a job
@@ -160,6 +161,7 @@ pub record MayGoOn (command : Option Command) (has_job : Bool) : Type 0 where
   pub balance : Balance
   pub command_is : command ≡ doing of (work_is.Balance balance)
   pub few : balance.over + 1 < 2 ^ 8
+  pub stands : HasLoadNext (record balance { over = balance.over + 1 })
   pub some : has_job ≡ true
 
 -- a balance is one action on, and this is its job

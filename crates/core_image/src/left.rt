@@ -3,7 +3,7 @@ ghost use Rattle.std.specs.Prelude.{◌≡◌, ◌+◌, ◌<◌, ◌^◌, Some, 
 ghost use Rattle.core_image.specs.NotesDue.{CanNoteLeft, GoesOn, MayBeLeft, MayGoOn};
 ghost use Rattle.volap_cell.specs.ImageKinds.{LeavesAs};
 ghost use Rattle.volap_cell.specs.Cells.{cell_of};
-ghost use Rattle.volap_cell.specs.Planning.{job_for, next_job, worker_among};
+ghost use Rattle.volap_cell.specs.Planning.{HasLoadNext, next_job};
 ghost use Rattle.volap_cell.specs.Steps.{IsHere, Makes};
 ghost use Rattle.volap_cell.specs.Values.{actor_of, job_of, stage_of};
 ghost use Rattle.volap_cell.specs.World.{change, held};
@@ -11,7 +11,6 @@ ghost use Rattle.volap_cell.specs.declared.kind.Kind.TheVariants.{Note};
 
 use dim_hierarchy::Hierarchy;
 use row_ledger::{Event, How};
-use shard_plan::{Action, Load};
 use volap_cell::{Actor, Balance, Cell, Command, Job, Stage, Work, ledger_in, there};
 
 /// Leaves the action that the actor's balance is at, which was declined or found no memory before its
@@ -70,6 +69,7 @@ fn onward(command: &mut Command, job: &mut Option<Box<Job>>)
 /// one.
 fn go_on(balance: &mut Balance, job: &mut Option<Box<Job>>)
     requires few { balance.old.over + 1 < 2 ^ 8 }
+    requires stands { HasLoadNext (record balance.old { over = balance.old.over + 1 }) }
     requires some { is_some job.old ≡ true }
     ensures over { balance.new ≡ record balance.old { over = balance.old.over + 1 } }
     ensures next { option_map (λ j. job_of j.value) job.new ≡ next_job balance.new }
@@ -79,36 +79,7 @@ fn go_on(balance: &mut Balance, job: &mut Option<Box<Job>>)
         None => *job = None,
         Some(action) => {
             let Some(job) = job else { unreachable!() };
-            turn(job, balance.standing.as_slice(), action);
+            **job = Job::of_action(balance.standing.as_slice(), action);
         }
-    }
-}
-
-/// Turns a job into that of an action, at its beginning.
-fn turn(job: &mut Job, standing: &[Load], action: Action)
-    ensures { job_of job.new ≡ job_for standing.now action }
-{
-    match action {
-        Action::Split { shard } => {
-            job.shard = shard;
-            job.worker = worker_among(standing, shard);
-            job.to = None;
-        }
-        Action::Move { shard, worker } => {
-            job.shard = shard;
-            job.worker = worker_among(standing, shard);
-            job.to = Some(worker);
-        }
-    }
-    job.stage = Stage::Called;
-}
-
-/// The worker of a shard by these loads; 0 where none is of it.
-fn worker_among(standing: &[Load], shard: u32) -> u8
-    ensures { result ≡ worker_among standing.now shard }
-{
-    match standing.iter().find(|load| load.shard == shard) {
-        Some(load) => load.worker,
-        None => 0,
     }
 }

@@ -8,7 +8,7 @@ use query_router::Desk;
 use row_ledger::Use;
 use std::alloc::{AllocError, Global};
 use std::test::Fail;
-use volap_cell::{Boxes, Cell, Role, RoleList, State, lift_two, open, put_two};
+use volap_cell::{Boxes, Cell, Role, RoleList, State, lift_one, open, put_one};
 
 /// The desk of a server.
 fn desk(alloc: Global, server: u8) -> Result<Cell, AllocError> {
@@ -51,10 +51,12 @@ fn server_at(cells: &[Option<Cell>], at: usize) -> Option<u8>
 #[test]
 fn two_cells_are_moved_out_and_put_back(rt: HostRuntime) -> Result<(), Fail> {
     let mut cells = desks(rt.alloc())?;
-    let (first, second) = lift_two(&mut cells, 2, 0);
+    let first = lift_one(&mut cells, 2);
+    let second = lift_one(&mut cells, 0);
     assert_eq!(rt; (server_of(&first), server_of(&second)), (Some(2), Some(0)));
     assert!(rt; cells[0].is_none() && cells[1].is_some() && cells[2].is_none());
-    put_two(&mut cells, 2, second, 0, first);
+    put_one(&mut cells, 0, first);
+    put_one(&mut cells, 2, second);
     assert_eq!(rt; server_at(&cells, 0), Some(2));
     assert_eq!(rt; server_at(&cells, 1), Some(1));
     assert_eq!(rt; server_at(&cells, 2), Some(0));

@@ -1,10 +1,10 @@
 -- How the boxes of spots grow.
-use Rattle.std.proofs.{Common.{ℕ, zero, suc, ◌≡◌, ◌+◌, ◌<◌, List, [], ◌∷◌, ◌++◌, length, get_or, set, take, drop, refl, sym, ap, ◌∙◌, subst, arith, All, add-zero}, lemmas.List.{append-nil, append_assoc, take_more, take_more_set, drop-set-lt, length-set, get_or-drop, drop-drop, map-id}, lemmas.List.Elements.{All-append, All-cons, All-nil, All-set, All-take, all_zip_more}, lemmas.List.FromFn.map-range_with_len_more, lemmas.List.Sorted.{IsPermutation-sym, IsPermutation-to_front, Contains-permutation}}
-use Rattle.std.specs.{List.{AllZip, range_with_len}, Prelude.{◌==◌}}
+use Rattle.std.proofs.{Common.{ℕ, zero, suc, ◌≡◌, ◌+◌, ◌<◌, List, [], ◌∷◌, ◌++◌, length, get_or, set, take, drop, refl, sym, ap, ◌∙◌, subst, arith, All, add-zero, eq-eqb}, lemmas.Bool.{eqb-true}, lemmas.List.{append-nil, append_assoc, take_more, take_more_set, drop-set-lt, length-set, set-get_or, get_or-drop, drop-drop, map-id}, lemmas.List.Elements.{All-append, All-cons, All-nil, All-set, All-take, all_zip_more}, lemmas.List.FromFn.map-range_with_len_more, lemmas.List.Sorted.{IsPermutation-sym, IsPermutation-to_front, Contains-permutation}}
+use Rattle.std.specs.{List.{AllZip, range_with_len}, Prelude.{◌==◌, ◌≢◌}}
 use Rattle.dim_hierarchy.specs.{Dimension.Dimension, Row.IsCoordOf, declared.row.Coord.Coord}
 use Rattle.describing_set.specs.{DescSet.IsSetOf, Sets.{IsDescSetOf, GrowsBy, AreAmong}, Sorted.{Below, Ascends}, declared.listing.Spot.Spot, declared.set.DescSet.DescSet}
-use Rattle.server_image.specs.{Image.{grown_at, AreGrowths}, Registry.IsFirstSpot, Spots.{spot_ids, IsGrown, Grows, AreBoxes, along}, declared.image.Growth.Growth}
-use Rattle.server_image.proofs.Lists.{by_test}
+use Rattle.server_image.specs.{Image.{grown_at, AreGrowths}, Registry.IsFirstSpot, Spots.{spot_ids, IsAt, IsGrown, Grows, AreBoxes, along}, declared.image.Growth.Growth}
+use Rattle.server_image.proofs.Lists.{by_test, Ascends-at}
 
 -- Lists place by place.
 
@@ -19,6 +19,10 @@ Grows-ids h more [] [] g = refl
 Grows-ids h more [] (y ∷ ys) g = absurd g
 Grows-ids h more (x ∷ xs) [] g = absurd g
 Grows-ids h more (x ∷ xs) (y ∷ ys) g = let first = g.0.shard in let rest = Grows-ids h more xs ys g.1 in cc
+
+-- the ids still ascend
+pub Grows-ascends : (h : List Dimension) (more : ℕ → List Coord) (xs ys : List Spot) → Grows h more xs ys → Ascends (spot_ids xs) → Ascends (spot_ids ys)
+Grows-ascends h more xs ys g a = subst Ascends (sym (Grows-ids h more xs ys g)) a
 
 pub Grows-length : (h : List Dimension) (more : ℕ → List Coord) (xs ys : List Spot) → Grows h more xs ys → length ys ≡ length xs
 Grows-length h more [] [] g = refl
@@ -63,6 +67,51 @@ grown-last h same at old new grows rows all s =
     let p = IsPermutation-to_front rows at in
     same (at ∷ rows) (rows ++ at ∷ []) new (λ x. Contains-permutation (at ∷ rows) (rows ++ at ∷ []) x (IsPermutation-sym (rows ++ at ∷ []) (at ∷ rows) p)) (λ x. Contains-permutation (rows ++ at ∷ []) (at ∷ rows) x p)
     (grows.grown rows all s)
+
+-- A box of one id.
+
+-- no spot has the id
+pub Grows-absent : (h : List Dimension) (at : Coord) (id : ℕ) (xs : List Spot) → All (λ s. s.shard ≢ id) xs → Grows h (along (id ∷ []) at) xs xs
+Grows-absent h at id [] all = tt
+Grows-absent h at id (x ∷ xs) all = (
+  by_test (id == x.shard)
+      (λ e. absurd (all 0 x (omega arith) (sym (eqb-true id x.shard e))))
+      (λ e. rw e (record { shard = refl; worker = refl; set = λ rows valid s. no_more h rows x.set s })),
+  Grows-absent h at id xs (λ k d lt. all (suc k) d (omega (arith, lt))),
+)
+
+Below-apart : (m : ℕ) (xs : List Spot) → Below m (spot_ids xs) → All (λ s. s.shard ≢ m) xs
+Below-apart m [] b = All-nil (λ s. s.shard ≢ m)
+Below-apart m (x ∷ xs) b = All-cons (λ (s : Spot). s.shard ≢ m) x xs (λ same. let lt = b.0 in omega (arith, lt, same)) (Below-apart m xs b.1)
+
+-- the spot at a place has the id
+pub Grows-at : (h : List Dimension) (at : Coord) (id : ℕ) (xs : List Spot) (place : ℕ) (x y : Spot) → Ascends (spot_ids xs) → place < length xs → x ≡ get_or xs place x → (get_or xs place x).shard ≡ id → IsGrown h (at ∷ []) x y
+    → Grows h (along (id ∷ []) at) xs (set xs place y)
+Grows-at h at id [] place x y a lt is has grown = absurd (omega (arith, lt))
+Grows-at h at id (z ∷ zs) zero x y a lt is has grown = (
+  subst (λ (s : Spot). IsGrown h (along (id ∷ []) at s.shard) s y) is (rw (eq-eqb id x.shard (sym has ∙ ap (λ (s : Spot). s.shard) (sym is))) grown),
+  Grows-absent h at id zs (subst (λ n. All (λ (s : Spot). s.shard ≢ n) zs) has (Below-apart z.shard zs a.0)),
+)
+Grows-at h at id (z ∷ zs) (suc place) x y a lt is has grown =
+    let below : z.shard < (get_or zs place x).shard = Ascends-at (z ∷ zs) 0 (suc place) x a (omega arith) lt in (
+      by_test (id == z.shard)
+          (λ e. let same = eqb-true id z.shard e in absurd (omega (arith, below, has, same)))
+          (λ e. rw e (record { shard = refl; worker = refl; set = λ rows valid s. no_more h rows z.set s })),
+      Grows-at h at id zs place x y a.1 (omega (arith, lt)) is has grown,
+    )
+
+-- the spot at a place has the id, and stays as it is
+pub Grows-kept : (h : List Dimension) (at : Coord) (id : ℕ) (xs : List Spot) (place : ℕ) (x : Spot) → Ascends (spot_ids xs) → IsAt id xs place → x ≡ get_or xs place x → IsGrown h (at ∷ []) x x
+    → Grows h (along (id ∷ []) at) xs xs
+Grows-kept h at id xs place x a found is grown =
+    let same : set xs place x ≡ xs = ap (λ s. set xs place s) is ∙ set-get_or xs place x in
+    subst (λ (now : List Spot). Grows h (along (id ∷ []) at) xs now) same (Grows-at h at id xs place x x a found.within is (found.shard x) grown)
+
+-- a list of one is its first alone
+pub alone : (xs : List ℕ) → length xs ≡ 1 → get_or xs 0 0 ∷ [] ≡ xs
+alone [] e = absurd (omega (arith, e))
+alone (x ∷ []) e = refl
+alone (x ∷ y ∷ rest) e = absurd (omega (arith, e))
 
 -- One growth after another.
 

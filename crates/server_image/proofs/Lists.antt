@@ -1,8 +1,8 @@
 -- Lists of spots when one is found, taken out or put in.
-use Rattle.std.proofs.{Common.{ℕ, suc, ◌≡◌, ◌+◌, ◌<◌, ◌≤◌, ◌⊎◌, inl, inr, Bool, true, false, List, [], ◌∷◌, length, refl, sym, ap, subst, arith}, lemmas.Bool.{false≢true, eqb-false, ltb-true, ltb-false}}
-use Rattle.std.specs.{List.{position_or_len, list_any, insert, remove}, Prelude.{◌==◌, nat_lt, position, unwrap_or}}
+use Rattle.std.proofs.{Common.{ℕ, zero, suc, ◌≡◌, ◌+◌, ◌<◌, ◌≤◌, ◌⊎◌, inl, inr, Bool, true, false, List, [], ◌∷◌, length, get_or, refl, sym, ap, subst, arith, All, Result, Ok, Err, IfOk, IfErr}, lemmas.Bool.{cases_lt, false≢true, eqb-false, ltb-true, ltb-false}, lemmas.Bool.Decides.{nat_tests}, lemmas.Cmp.{ranked}}
+use Rattle.std.specs.{List.{position_or_len, list_any, insert, remove}, List.Sorted.{IsSearchInRange, IsBinarySearchResult, IsNonDecreasingBy}, Ordering.{nat_cmp, ordering_index}, Prelude.{◌==◌, ◌≢◌, nat_lt, position, unwrap_or}}
 use Rattle.describing_set.specs.{Sorted.{Below, Ascends, In}, declared.listing.Spot.Spot}
-use Rattle.server_image.specs.{Registry.IsRegistry, Spots.{has_spot, spot_ids, place_of, without, with_spot}}
+use Rattle.server_image.specs.{Registry.IsRegistry, Spots.{has_spot, spot_ids, IsAt, place_of, without, with_spot}}
 
 -- a test is true or false
 pub by_test : {P : Type 0} (b : Bool) → (b ≡ true → P) → (b ≡ false → P) → P
@@ -128,3 +128,38 @@ IsRegistry-split id left right xs old now r new_left new_right apart =
           (λ i. elim (In-with_spot right.shard left rest i) [ inl same ↦ apart (sym same) | inr had ↦ new_right (In-without right.shard id xs had) ])
           (Ascends-with_spot left rest (λ i. new_left (In-without left.shard id xs i)) (Ascends-without id xs r.ascending));
     }
+
+-- Looking by halving.
+
+Below-at : (m : ℕ) (xs : List Spot) (k : ℕ) (d : Spot) → Below m (spot_ids xs) → k < length xs → m < (get_or xs k d).shard
+Below-at m [] k d b lt = absurd (omega (arith, lt))
+Below-at m (x ∷ xs) zero d b lt = b.0
+Below-at m (x ∷ xs) (suc k) d b lt = Below-at m xs k d b.1 (omega (arith, lt))
+
+-- the id at a place is below the ids at later ones
+pub Ascends-at : (xs : List Spot) (i j : ℕ) (d : Spot) → Ascends (spot_ids xs) → i < j → j < length xs → (get_or xs i d).shard < (get_or xs j d).shard
+Ascends-at [] i j d a lt within = absurd (omega (arith, within))
+Ascends-at (x ∷ xs) i zero d a lt within = absurd (omega (arith, lt))
+Ascends-at (x ∷ xs) zero (suc j) d a lt within = Below-at x.shard xs j d a.0 (omega (arith, within))
+Ascends-at (x ∷ xs) (suc i) (suc j) d a lt within = Ascends-at xs i j d a.1 (omega (arith, lt)) (omega (arith, within))
+
+-- the comparisons with an id rise along the list, as a search by halving asks
+comparisons_rise : (xs : List Spot) (id : ℕ) → Ascends (spot_ids xs) → IsNonDecreasingBy (λ s. ordering_index (nat_cmp s.shard id)) xs
+comparisons_rise xs id a i j d le within =
+    let rise : (get_or xs i d).shard ≤ (get_or xs j d).shard = elim (cases_lt i j) [
+      | inl less ↦ let lt = Ascends-at xs i j d a less within in omega (arith, lt)
+      | inr ge ↦ let e : i ≡ j = omega (arith, le, ge) in let same = ap (λ n. (get_or xs n d).shard) e in omega (arith, same)
+    ] in
+    grind (arith, nat_tests, rise)
+
+-- such a search ends at the spot of the id, or no spot has it
+pub searched : (xs : List Spot) (id : ℕ) → Ascends (spot_ids xs) → (r : Result ℕ ℕ) → IsSearchInRange r (length xs) → IsBinarySearchResult (λ s. nat_cmp s.shard id) xs r
+    → record { found : IfOk r (IsAt id xs); absent : IfErr r (λ _. All (λ s. s.shard ≢ id) xs) }
+searched xs id a (Ok place) within equal = record { found = record { within = within; shard = λ d. ranked _ id _ (sym (equal d)) }; absent = tt }
+searched xs id a (Err place) within parted = record {
+  found = tt;
+  absent = λ k d lt same. elim (cases_lt k place) [
+    | inl less ↦ let below = ranked _ id _ (sym ((parted (comparisons_rise xs id a)).0 k d (omega arith) less)) in omega (arith, below, same)
+    | inr ge ↦ let above = ranked _ id _ (sym ((parted (comparisons_rise xs id a)).1 k d ge lt)) in omega (arith, above, same)
+  ];
+}

@@ -1,5 +1,5 @@
 -- Lists of spots: finding one, and how their boxes grow.
-use Rattle.std.specs.{List.{AllZip, insert, remove, position_or_len, list_any}, Prelude.{ℕ, ◌≡◌, ◌==◌, nat_lt, Bool, if◌then◌else◌, Option, Some, None, List, [], ◌∷◌, ◌++◌, map, All}}
+use Rattle.std.specs.{List.{AllZip, insert, remove, position_or_len, list_any}, Prelude.{ℕ, ◌≡◌, ◌==◌, nat_lt, Bool, if◌then◌else◌, Option, Some, None, List, [], ◌∷◌, ◌++◌, ◌<◌, length, slice_index_or, map, All}}
 use Rattle.dim_hierarchy.specs.{Dimension.Dimension, Row.IsCoordOf, declared.row.Coord.Coord}
 use Rattle.describing_set.specs.{DescSet.IsSetOf, Sets.IsDescSetOf, declared.listing.Spot.Spot}
 
@@ -14,6 +14,11 @@ spot_ids spots = map (λ s. s.shard) spots
 -- a spot has this id
 abbrev pub has_spot : ℕ → List Spot → Bool
 has_spot id spots = list_any (λ s. s.shard == id) spots
+
+-- the spot at a place has this id
+pub record IsAt (id : ℕ) (spots : List Spot) (place : ℕ) : Type 0 where
+  pub within : place < length spots
+  pub shard : (d : Spot) → (slice_index_or spots place d).shard ≡ id
 
 -- the place of the first spot of this id; past the last one where there is none
 abbrev pub place_of : ℕ → List Spot → ℕ

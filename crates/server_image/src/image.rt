@@ -2,7 +2,8 @@
 ghost use Rattle.std.specs.Prelude.{◌≡◌, ◌+◌, ◌<◌, ◌∷◌, ◌++◌, [], length, vec_len, vec_capacity, IfOk, OnOk, OnErr};
 ghost use Rattle.dim_hierarchy.specs.Row.{IsCoordOf};
 ghost use Rattle.dim_hierarchy.specs.Filter.{IsFilterOf};
-ghost use Rattle.server_image.specs.Spots.{AreBoxes};
+ghost use Rattle.describing_set.specs.Sorted.{Ascends};
+ghost use Rattle.server_image.specs.Spots.{AreBoxes, spot_ids};
 
 use crate::rank::first_for;
 use crate::registry::Registry;
@@ -39,21 +40,25 @@ pub struct Image {
 
 impl Model for Image {
     ghost use Rattle.std.specs.Prelude.{◌+◌, ◌<◌, ◌≤◌, length, vec_len, vec_capacity};
+    ghost use Rattle.describing_set.specs.Sorted.{Ascends};
+    ghost use Rattle.server_image.specs.Spots.{spot_ids};
     ghost use Rattle.server_image.specs.Image.{ImageValue};
 
     ghost Value = { ImageValue };
 
     ghost view = { λ i. record { spots = i.spots.items; growths = i.growths.items; owed = i.owed } };
 
-    ghost invariant = { λ i. (0 < length i.spots.items) × (vec_len i.growths + i.owed ≤ vec_capacity i.growths) };
+    ghost invariant = { λ i. (0 < length i.spots.items) × (vec_len i.growths + i.owed ≤ vec_capacity i.growths) × Ascends (spot_ids i.spots.items) };
 }
 
 impl Image {
     ghost use Rattle.server_image.specs.Image.{IsRoute, IsAcked, IsSynced, AreGrowths, planned};
 
-    /// The image of a listing that is not empty, with no growth and nothing owed. Takes no memory.
+    /// The image of a listing that is not empty and ascends by id, with no growth and nothing owed. Takes
+    /// no memory.
     pub fn new(alloc: Global, listing: Listing) -> Image
-        requires { 0 < length listing }
+        requires some { 0 < length listing }
+        requires ascending { Ascends (spot_ids listing) }
         ensures { result ≡ record { spots = listing; growths = []; owed = 0 } }
     {
         Image {
@@ -155,7 +160,7 @@ impl Image {
     {
         let mut spots = Vec::with_capacity(alloc, registry.len())?;
         let listing = registry.pull(alloc, &self.growths, h)?;
-        copy_spots(listing.as_slice(), &mut spots);
+        copy_spots(registry.spots(), &mut spots);
         self.spots = spots;
         self.growths.clear();
         Ok(listing)

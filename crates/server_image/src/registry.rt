@@ -1,11 +1,12 @@
 //! All shards that were ever made.
 ghost use Rattle.std.specs.Prelude.{◌≡◌, ◌≢◌, ◌<◌, ◌≤◌, length, take, IsTrue, false, IfOk, OnOk, OnErr};
+ghost use Rattle.describing_set.specs.Sorted.{Ascends};
 ghost use Rattle.server_image.specs.Spots.{AreBoxes, Grows, spot_ids};
 ghost use Rattle.server_image.specs.Image.{grown_at, AreGrowths};
 
 use crate::image::Growth;
 use crate::spots::{
-    copied, copy_spots, grow_spots, has_spot, keep_spots, place_of, put_spot, worker_in,
+    copied, copy_spots, grow_spot, has_spot, keeps_spot, place_of, put_spot, worker_in,
 };
 use describing_set::{DescSet, Listing, SharedListing, Spot};
 use dim_hierarchy::Hierarchy;
@@ -70,6 +71,7 @@ impl Registry {
     pub fn spots(&self) -> &[Spot]
         ensures value { result.now ≡ self.now.frontier }
         ensures some { 0 < length result.now }
+        ensures ascending { Ascends (spot_ids result.now) }
     {
         self.frontier.as_slice()
     }
@@ -206,6 +208,7 @@ impl Registry {
 
 /// How many growths come before the first one that changes a box.
 fn known_of(spots: &[Spot], growths: &[Growth], h: &Hierarchy) -> usize
+    requires ascending { Ascends (spot_ids spots.now) }
     requires boxes { AreBoxes h.now spots.now }
     requires growths { AreGrowths h.now growths.now }
     ensures few { result ≤ length growths.now }
@@ -213,7 +216,7 @@ fn known_of(spots: &[Spot], growths: &[Growth], h: &Hierarchy) -> usize
 {
     for place in 0..growths.len() {
         let growth = &growths[place];
-        if !keep_spots(spots, &[growth.shard], &growth.at, h) {
+        if !keeps_spot(spots, growth.shard, &growth.at, h) {
             return place;
         }
     }
@@ -222,6 +225,7 @@ fn known_of(spots: &[Spot], growths: &[Growth], h: &Hierarchy) -> usize
 
 /// Grows the boxes of spots by what was noted from a place on; what comes before changes none.
 fn grow_from(spots: &mut Vec<Spot>, growths: &[Growth], from: usize, h: &Hierarchy)
+    requires ascending { Ascends (spot_ids spots.old.items) }
     requires boxes { AreBoxes h.now spots.old.items }
     requires growths { AreGrowths h.now growths.now }
     requires few { from ≤ length growths.now }
@@ -231,6 +235,6 @@ fn grow_from(spots: &mut Vec<Spot>, growths: &[Growth], from: usize, h: &Hierarc
 {
     for place in from..growths.len() {
         let growth = &growths[place];
-        grow_spots(spots, &[growth.shard], &growth.at, h);
+        grow_spot(spots, growth.shard, &growth.at, h);
     }
 }

@@ -1,10 +1,11 @@
 //! Lists of spots in the order of their ids.
-ghost use Rattle.std.specs.Prelude.{◌≡◌, ◌==◌, ◌+◌, ◌<◌, ◌≤◌, ◌++◌, nat_lt, length, vec_len, vec_capacity, IfOk};
+ghost use Rattle.std.specs.Prelude.{◌≡◌, ◌≢◌, ◌==◌, ◌+◌, ◌<◌, ◌≤◌, [], ◌∷◌, ◌++◌, nat_lt, length, vec_len, vec_capacity, All, IfOk, IfErr};
 ghost use Rattle.std.specs.Bool.{OnTrue};
 ghost use Rattle.std.specs.List.{position_or_len, position};
 ghost use Rattle.dim_hierarchy.specs.Row.{IsCoordOf};
 ghost use Rattle.describing_set.specs.Sets.{IsDescSetOf};
-ghost use Rattle.server_image.specs.Spots.{AreBoxes, is_among, has_spot, place_of, worker_in, with_spot, IsGrown, along, Grows};
+ghost use Rattle.describing_set.specs.Sorted.{Ascends};
+ghost use Rattle.server_image.specs.Spots.{AreBoxes, spot_ids, is_among, has_spot, IsAt, place_of, worker_in, with_spot, IsGrown, along, Grows};
 
 use describing_set::{DescSet, Spot};
 use dim_hierarchy::{Coord, Hierarchy};
@@ -90,62 +91,105 @@ pub fn copied(alloc: Global, spots: &[Spot]) -> Result<Vec<Spot>, AllocError>
     Ok(copies)
 }
 
-/// Whether the id is one of these.
-fn is_among(ids: &[u32], id: u32) -> bool
-    ensures { result ≡ is_among ids.now id }
+/// The place of the spot of this id, looked for by halving.
+fn search(id: u32, spots: &[Spot]) -> Result<usize, usize>
+    requires { Ascends (spot_ids spots.now) }
+    ensures found { IfOk result (IsAt id spots.now) }
+    ensures absent { IfErr result (λ _place. All (λ s. s.shard ≢ id) spots.now) }
 {
-    ids.iter().any(|x| *x == id)
+    spots.binary_search_by_key(&id, |spot| spot.shard)
 }
 
-/// Grows a spot's box by a coordinate where it has one of these ids. A box that covers the coordinate
-/// is only read.
-fn grow_spot(spot: &mut Spot, ids: &[u32], at: &Coord, h: &Hierarchy)
+/// Grows a spot's box by a coordinate. A box that covers the coordinate is only read.
+fn grow_box(spot: &mut Spot, at: &Coord, h: &Hierarchy)
+    requires box_of { IsDescSetOf h.now spot.old.set }
+    requires at { IsCoordOf h.now at.now }
+    ensures grown { IsGrown h.now (at.now ∷ []) spot.old spot.new }
+    ensures valid { IsDescSetOf h.now spot.new.set }
+{
+    DescSet::laws(h);
+    spot.set.grow(h, at);
+}
+
+/// Grows the box of the spot of this id by a coordinate, where there is one.
+pub fn grow_spot(spots: &mut Vec<Spot>, id: u32, at: &Coord, h: &Hierarchy)
+    requires ascending { Ascends (spot_ids spots.old.items) }
+    requires boxes { AreBoxes h.now spots.old.items }
+    requires at { IsCoordOf h.now at.now }
+    ensures grown { Grows h.now (along (id ∷ []) at.now) spots.old.items spots.new.items }
+    ensures boxes { AreBoxes h.now spots.new.items }
+{
+    if let Ok(place) = search(id, spots) {
+        grow_box(&mut spots[place], at, h);
+    }
+}
+
+/// Grows a spot's box by a coordinate where it has one of these ids.
+fn grow_among(spot: &mut Spot, ids: &[u32], at: &Coord, h: &Hierarchy)
     requires box_of { IsDescSetOf h.now spot.old.set }
     requires at { IsCoordOf h.now at.now }
     ensures grown { IsGrown h.now (along ids.now at.now spot.old.shard) spot.old spot.new }
     ensures valid { IsDescSetOf h.now spot.new.set }
 {
     if is_among(ids, spot.shard) {
-        DescSet::laws(h);
-        spot.set.grow(h, at);
+        grow_box(spot, at, h);
     }
 }
 
-/// Grows the box of each spot of these ids by a coordinate.
-pub fn grow_spots(spots: &mut Vec<Spot>, ids: &[u32], at: &Coord, h: &Hierarchy)
+/// Grows the box of each spot of these ids by a coordinate, in one pass over all spots.
+fn grow_each(spots: &mut Vec<Spot>, ids: &[u32], at: &Coord, h: &Hierarchy)
     requires boxes { AreBoxes h.now spots.old.items }
     requires at { IsCoordOf h.now at.now }
     ensures grown { Grows h.now (along ids.now at.now) spots.old.items spots.new.items }
     ensures boxes { AreBoxes h.now spots.new.items }
 {
     for place in 0..spots.len() {
-        grow_spot(&mut spots[place], ids, at, h);
+        grow_among(&mut spots[place], ids, at, h);
     }
 }
 
-/// Whether a spot has none of these ids, or its box stays as it is when the coordinate is added.
-fn keeps_spot(spot: &Spot, ids: &[u32], at: &Coord, h: &Hierarchy) -> bool
+/// Grows the box of each spot of these ids by a coordinate. There is mostly one, which is looked for.
+pub fn grow_spots(spots: &mut Vec<Spot>, ids: &[u32], at: &Coord, h: &Hierarchy)
+    requires ascending { Ascends (spot_ids spots.old.items) }
+    requires boxes { AreBoxes h.now spots.old.items }
+    requires at { IsCoordOf h.now at.now }
+    ensures grown { Grows h.now (along ids.now at.now) spots.old.items spots.new.items }
+    ensures boxes { AreBoxes h.now spots.new.items }
+{
+    if ids.len() == 1 {
+        grow_spot(spots, ids[0], at, h);
+    } else {
+        grow_each(spots, ids, at, h);
+    }
+}
+
+/// Whether a spot's box stays as it is when the coordinate is added.
+fn keeps_box(spot: &Spot, at: &Coord, h: &Hierarchy) -> bool
     requires box_of { IsDescSetOf h.now spot.now.set }
     requires at { IsCoordOf h.now at.now }
-    ensures { OnTrue result (IsGrown h.now (along ids.now at.now spot.now.shard) spot.now spot.now) }
+    ensures { OnTrue result (IsGrown h.now (at.now ∷ []) spot.now spot.now) }
 {
-    if is_among(ids, spot.shard) {
-        DescSet::laws(h);
-        return spot.set.keeps(h, at);
-    }
-    true
+    DescSet::laws(h);
+    spot.set.keeps(h, at)
 }
 
-/// Whether the box of each spot of these ids stays as it is when the coordinate is added.
-pub fn keep_spots(spots: &[Spot], ids: &[u32], at: &Coord, h: &Hierarchy) -> bool
+/// Whether the box of the spot of this id stays as it is when the coordinate is added, or there is no such
+/// spot.
+pub fn keeps_spot(spots: &[Spot], id: u32, at: &Coord, h: &Hierarchy) -> bool
+    requires ascending { Ascends (spot_ids spots.now) }
     requires boxes { AreBoxes h.now spots.now }
     requires at { IsCoordOf h.now at.now }
-    ensures { OnTrue result (Grows h.now (along ids.now at.now) spots.now spots.now) }
+    ensures { OnTrue result (Grows h.now (along (id ∷ []) at.now) spots.now spots.now) }
 {
-    for place in 0..spots.len() {
-        if !keeps_spot(&spots[place], ids, at, h) {
-            return false;
-        }
+    match search(id, spots) {
+        Ok(place) => keeps_box(&spots[place], at, h),
+        Err(_) => true,
     }
-    true
+}
+
+/// Whether the id is one of these.
+fn is_among(ids: &[u32], id: u32) -> bool
+    ensures { result ≡ is_among ids.now id }
+{
+    ids.iter().any(|x| *x == id)
 }

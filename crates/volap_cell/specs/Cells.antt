@@ -59,6 +59,13 @@ tag_of (MapCell w m) = MapOf w
 tag_of (GateCell g) = OfStock
 tag_of (BlockCell b) = OfStock
 
+-- the server or the worker that a tag names
+abbrev pub owned_by : Tag → Option ℕ
+owned_by (ImageOf server) = Some server
+owned_by (DeskOf server) = Some server
+owned_by (MapOf worker) = Some worker
+owned_by _ = None
+
 -- Blocks.
 
 -- a cell without a block counts as an empty leaf

@@ -1,5 +1,6 @@
 -- What a balance does next.
-use Rattle.std.specs.{List.list_any, Prelude.{ℕ, ◌==◌, Bool, List, Option, Some, None, option_map, option_and_then, slice_get, find, unwrap_or}}
+use Rattle.std.specs.{List.list_any, Prelude.{ℕ, ◌≡◌, ◌==◌, Bool, true, List, Option, Some, None, option_map, option_and_then, slice_get, find, unwrap_or}}
+use Rattle.row_ledger.specs.Work.{shard_of}
 use Rattle.shard_plan.specs.{declared.action.Action.Action, declared.action.Load.Load}
 use Rattle.shard_plan.specs.declared.action.Action.TheVariants as action
 use Rattle.volap_cell.specs.{Values.{JobValue, IsCalled}, declared.command.Balance.Balance}
@@ -20,3 +21,7 @@ job_for standing (action.Move shard worker) = record { shard = shard; worker = w
 -- the job of the action that is next; none before the plan is made, and none after the last action
 abbrev pub next_job : Balance → Option JobValue
 next_job b = option_map (job_for b.standing) (option_and_then (λ (actions : List Action). slice_get actions b.over) b.plan)
+
+-- the shard of the action that is next, if there is one, is among the loads
+abbrev pub HasLoadNext : Balance → Type 0
+HasLoadNext b = (action : Action) → option_and_then (λ (actions : List Action). slice_get actions b.over) b.plan ≡ Some action → has_load b.standing (shard_of action) ≡ true

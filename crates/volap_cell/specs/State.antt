@@ -1,6 +1,6 @@
 -- The state that vectors of cells and actors are, as one thread holds them; and what becomes of it when an actor and some cells are
 -- moved out, changed by a kind, and put back.
-use Rattle.std.specs.Prelude.{ℕ, ◌≡◌, ◌≢◌, ◌<◌, ◌≤◌, ⊤, Bool, if◌then◌else◌, List, [], ◌∷◌, map, length, get_or, set, Option, Some, None}
+use Rattle.std.specs.Prelude.{ℕ, ◌≡◌, ◌≢◌, ◌<◌, ◌≤◌, ⊤, List, [], ◌∷◌, map, length, get_or, set, Option, Some, None}
 use Rattle.dim_hierarchy.specs.Dimension.{Dimension}
 use Rattle.list_words.specs.Counts.{Each}
 use Rattle.volap_cell.specs.{Cells.{FreeCell, cell_of}, Ghost.Ghost, Invariant.InvWith, Opening.IsFresh, Setting.Setting, Steps.{Inv, IsKept, IsReached}, Values.actor_of, View.view, World.{World, Change, MustKeep, change}, declared.actor.Actor.Actor, declared.cell.Cell.Cell, declared.kind.Kind.Kind}
@@ -58,9 +58,6 @@ given (thing ∷ things) places = set (given things places) thing.0 (Some thing.
 abbrev pub cell_if : ℕ → Option Cell → List (ℕ × Cell)
 cell_if number None = []
 cell_if number (Some cell) = (number, cell) ∷ []
-
-abbrev pub number_if : ℕ → Bool → List ℕ
-number_if number wanted = if wanted then number ∷ [] else []
 
 -- A kind between.
 

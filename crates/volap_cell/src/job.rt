@@ -1,5 +1,7 @@
 //! The split or the move of a shard, how far it has come, and which kind of step is due for it.
-ghost use Rattle.std.specs.Prelude.{◌≡◌, if◌then◌else◌};
+ghost use Rattle.std.specs.Prelude.{◌≡◌, ◌==◌, true, find, if◌then◌else◌};
+ghost use Rattle.row_ledger.specs.Work.{shard_of};
+ghost use Rattle.volap_cell.specs.Planning.{has_load, job_for, worker_among};
 ghost use Rattle.volap_cell.specs.JobSteps.{finish_kind, is_empty, next_of_job, stage_kind};
 ghost use Rattle.volap_cell.specs.Values.{building_of, job_of, stage_of};
 ghost use Rattle.volap_cell.specs.declared.kind.Kind.TheVariants.{BuildBlock};
@@ -12,6 +14,7 @@ use describing_set::{DescSet, Plane};
 use dim_hierarchy::Items;
 use measure_agg::Agg;
 use row_ledger::Decline;
+use shard_plan::{Action, Load};
 use shard_store::{CellList, RowList};
 
 /// The split of a shard, or its move to a worker, by the one administrator.
@@ -26,6 +29,27 @@ pub struct Job {
 }
 
 impl Job {
+    /// The job of an action, at its beginning, of the worker that has the action's shard by these loads.
+    pub fn of_action(standing: &[Load], action: Action) -> Job
+        requires { has_load standing.now (shard_of action) ≡ true }
+        ensures { job_of result ≡ job_for standing.now action }
+    {
+        match action {
+            Action::Split { shard } => Job {
+                shard,
+                worker: worker_among(standing, shard),
+                to: None,
+                stage: Stage::Called,
+            },
+            Action::Move { shard, worker } => Job {
+                shard,
+                worker: worker_among(standing, shard),
+                to: Some(worker),
+                stage: Stage::Called,
+            },
+        }
+    }
+
     /// The kind of step that is due for this job. It may have to wait: the job's stage alone tells the kind,
     /// and nothing is known of the cells.
     pub fn next(&self) -> Kind
@@ -33,6 +57,21 @@ impl Job {
     {
         stage_kind(self.to, &self.stage)
     }
+}
+
+/// The worker of a shard by these loads, one of which is of it.
+fn worker_among(standing: &[Load], shard: u32) -> u8
+    requires { has_load standing.now shard ≡ true }
+    ensures { result ≡ worker_among standing.now shard }
+{
+    load_of(standing, shard).unwrap().worker
+}
+
+/// The load of a shard, if one of these is of it.
+fn load_of(standing: &[Load], shard: u32) -> Option<Load>
+    ensures { result ≡ find (λ l. l.shard == shard) standing.now }
+{
+    standing.iter().copied().find(|load| load.shard == shard)
 }
 
 /// What is due for a job, by how far it has come.

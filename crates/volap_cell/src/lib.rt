@@ -35,10 +35,7 @@ pub use opening::open;
 pub use plan::ActionPlan;
 pub use role::{Role, RoleList};
 pub use room::NoteRoom;
-pub use state::{
-    State, lift_five, lift_four, lift_if, lift_one, lift_seven, lift_six, lift_three, lift_two,
-    put_five, put_four, put_if, put_one, put_seven, put_six, put_three, put_two,
-};
+pub use state::{State, lift_one, put_one};
 pub use tags::{
     block_in, block_seen, desk_in, gate_in, gate_seen, image_in, ledger_in, map_in, owner_in,
     registry_in, stock_in,

@@ -1,7 +1,7 @@
 //! What is in a cell of which it is known what it holds. As each step asks for it, none of these is a call.
 ghost use Rattle.std.specs.Borrow.{sem};
 ghost use Rattle.std.specs.Prelude.{ℕ, ◌≡◌, true, IsSome};
-ghost use Rattle.volap_cell.specs.Cells.{BlockCell, DeskOf, GateCell, ImageOf, MapOf, TheLedger, TheRegistry, TheStock, cell_of, gate_shard, has_block, tag_of};
+ghost use Rattle.volap_cell.specs.Cells.{BlockCell, DeskOf, GateCell, ImageOf, MapOf, TheLedger, TheRegistry, TheStock, cell_of, gate_shard, has_block, owned_by, tag_of};
 ghost use Rattle.volap_cell.specs.Lending.{LendsBlock, LendsDesk, LendsGate, LendsImage, LendsLedger, LendsMap, LendsRegistry, LendsStock, owner_of, with_block, with_desk, with_gate, with_image, with_ledger, with_map, with_registry, with_stock};
 
 use crate::cell::Cell;
@@ -117,16 +117,17 @@ pub fn block_in(cell: &mut Cell) -> &mut Block
     }
 }
 
-/// Whose a server's or a worker's cell is; 0 of any other.
+/// Whose a server's or a worker's cell is.
 #[inline(always)]
 pub fn owner_in(cell: &Cell) -> u8
+    requires { IsSome (owned_by (tag_of (cell_of cell.now))) }
     ensures { result ≡ owner_of cell.now }
 {
     match cell {
         Cell::Image { server, .. } => *server,
         Cell::Desk { server, .. } => *server,
         Cell::Map { worker, .. } => *worker,
-        _ => 0,
+        _ => unreachable!(),
     }
 }
 

@@ -1,5 +1,5 @@
 -- A balance reads a load: what it is then, and its plan and first job behind the last one.
-use Rattle.std.proofs.{Common.{if◌then◌else◌, ◌≡◌, ℕ, suc, ◌+◌, ◌<◌, ◌≤◌, List, [], ◌∷◌, ◌++◌, Bool, true, false, length, map, take, drop, reverse, slice_get, Option, Some, None, refl, sym, ap, ◌∙◌, subst, arith, All, ◌==◌, ◌||◌, ◌&&◌, is_some}, lemmas.Bool.{eqb-true, eqb-false}, lemmas.List.{map-append, take_more_set, length-set}, lemmas.List.Elements.{All-append, All-cons, All-head, All-nil, All-weaker}, lemmas.List.Folds.{Any-from_list_any, list_any-from_Any}}
+use Rattle.std.proofs.{Common.{if◌then◌else◌, ◌≡◌, ℕ, suc, ◌+◌, ◌<◌, ◌≤◌, List, [], ◌∷◌, ◌++◌, Bool, true, false, length, take, drop, reverse, slice_get, Option, Some, None, refl, sym, ap, ◌∙◌, subst, arith, All, ◌==◌, ◌||◌, ◌&&◌, is_some}, lemmas.Bool.{eqb-true, eqb-false}, lemmas.List.{map-append, take_more_set, length-set}, lemmas.List.Elements.{All-append, All-cons, All-head, All-nil, All-weaker}, lemmas.List.Folds.{Any-from_list_any, list_any-from_Any}}
 use Rattle.std.specs.{List.{AllZip, list_any}, Prelude.count_by}
 use Rattle.row_ledger.specs.{Past.{Step, work}, Shards.{Place, comes_from, frontier, is_of, place}, Work.{Reading, Settles, is_done}, Workers.is_on, declared.event.Event.Event}
 use Rattle.shard_plan.specs.{Balancing.plan, declared.action.Action.Action, declared.action.Load.Load}
@@ -8,15 +8,11 @@ use Rattle.list_words.proofs.Truth.{on_bool}
 use Rattle.volap_cell.specs.{Planning.{has_load, job_for, next_job, worker_among}, Setting.{Setting, site_in}, Values.{JobValue, IsCalled}, Working.{IsAhead, IsBalancing, IsPlanned, IsReadLoad, StandsBy, places_in}, declared.command.Balance.Balance}
 use Rattle.core_image.proofs.Commands.NextAction.{drop-at, inside, next-action}
 use Rattle.core_admin.specs.LoadDue.{after_load, loads_read}
-use Rattle.core_admin.proofs.{Balances.LoadLists.{each-among, set-alike, stands-there}, Balances.PlanShards.{IsOf, has-by-shard, plan-few, plan-of, shards_in}}
+use Rattle.core_admin.proofs.{Balances.LoadLists.{each-among, set-alike, stands-there}, Balances.PlanShards.{IsOf, emptiest-there, has-by-shard, plan-few, plan-of, shards_in}}
 
 none-of : {A : Type 0} (o : Option A) → is_some o ≡ false → o ≡ None
 none-of None is = refl
 none-of (Some x) is = (let never : true ≡ false = is in absurd (cc))
-
-shards-placed : (loads : List Load) → shards_in loads ≡ map (λ (p : Place). p.shard) (places_in loads)
-shards-placed [] = refl
-shards-placed (l ∷ loads) = ap (λ (xs : List ℕ). l.shard ∷ xs) (shards-placed loads)
 
 -- whether one of the loads comes from a shard is seen of their shards alone
 any-by-shard : (test : ℕ → Bool) (loads : List Load) → list_any (λ (l : Load). test l.shard) loads ≡ list_any test (shards_in loads)
@@ -76,7 +72,7 @@ module _ (s : Setting) (h : List Event) (placed : ℕ → Bool) (home : ℕ → 
     all-stand : All (StandsBy s h now) (shards_in now)
     all-stand = All-weaker (λ x. list_any (λ y. y == x) (shards_in now) ≡ true) (StandsBy s h now) stands (shards_in now) (each-among (shards_in now))
 
-    ahead-of : (a : Action) → IsOf (StandsBy s h now) s.workers a → IsAhead s h now a
+    ahead-of : (a : Action) → IsOf (StandsBy s h now) (λ w. w < s.workers) a → IsAhead s h now a
     ahead-of (action.Split x) is = is
     ahead-of (action.Move x worker) is = is
 
@@ -84,7 +80,7 @@ module _ (s : Setting) (h : List Event) (placed : ℕ → Bool) (home : ℕ → 
     planning = plan now s.workers b.most
 
     all-ahead : All (IsAhead s h now) planning
-    all-ahead = All-weaker (IsOf (StandsBy s h now) s.workers) (IsAhead s h now) ahead-of planning (plan-of (StandsBy s h now) s.workers some b.most now all-stand)
+    all-ahead = All-weaker (IsOf (StandsBy s h now) (λ w. w < s.workers)) (IsAhead s h now) ahead-of planning (plan-of (StandsBy s h now) (λ w. w < s.workers) s.workers (λ loads. emptiest-there loads s.workers some) b.most now all-stand)
 
     -- behind the last load
     pub planned-now : (actions : List Action) → next.plan ≡ Some actions → (b.read + 1 ≡ length b.loads) × (planning ≡ actions)

@@ -1,10 +1,13 @@
 -- A plan's actions are of shards that have a load, its moves go to workers that are there, and it has no more of them than it may.
-use Rattle.std.proofs.{Common.{if◌then◌else◌, ◌≡◌, ℕ, zero, suc, ◌<◌, ◌≤◌, List, [], ◌∷◌, Bool, cond, filter, fold, length, map, nat_le, Option, Some, None, refl, sym, ap, ◌∙◌, subst, arith, ◌==◌, ◌||◌, All, unwrap_or}, lemmas.List.Elements.{All-append, All-cons, All-head, All-nil, All-tail}}
-use Rattle.std.specs.{List.list_any, Option.option_map_or}
+use Rattle.std.proofs.{Common.{if◌then◌else◌, ◌≡◌, ℕ, zero, suc, ◌<◌, ◌≤◌, List, [], ◌∷◌, Bool, cond, filter, fold, length, map, nat_le, Option, Some, None, refl, sym, ap, ◌∙◌, subst, arith, ◌==◌, ◌||◌, All, option_and_then, slice_get, true, unwrap_or}, lemmas.List.Elements.{All-append, All-cons, All-head, All-nil, All-tail, All-weaker}}
+use Rattle.std.specs.{List.list_any, Option.option_map_or, Prelude.⊤}
+use Rattle.row_ledger.specs.Work.{shard_of}
 use Rattle.shard_plan.specs.{Balancing.{after_move, earlier, emptiest, even_gap, first_by, fullest, gap, has_fewer, is_larger, is_movable, numbers_below, plan, plan_of_split, split_rows, to_look_at, to_move}, declared.action.Action.Action, declared.action.Load.Load}
 use Rattle.shard_plan.specs.declared.action.Action.TheVariants as action
 use Rattle.list_words.proofs.Truth.{on_bool}
-use Rattle.volap_cell.specs.Planning.{has_load}
+use Rattle.volap_cell.specs.{Planning.{HasLoadNext, has_load}, declared.command.Balance.Balance}
+use Rattle.core_image.proofs.Commands.NextAction.{all-behind}
+use Rattle.core_admin.proofs.Balances.LoadLists.{each-among}
 
 -- The first of a list by an order is one of them.
 
@@ -75,35 +78,49 @@ by-loads P (l ∷ loads) all = All-cons (λ (x : Load). P x.shard) l loads (All-
 
 -- Actions.
 
--- an action of such a shard; a move goes to a worker that is there
-abbrev pub IsOf : (ℕ → Type 0) → ℕ → Action → Type 0
-IsOf P workers (action.Split x) = P x
-IsOf P workers (action.Move x worker) = P x × (worker < workers)
+-- an action of such a shard; a move goes to such a worker
+abbrev pub IsOf : (ℕ → Type 0) → (ℕ → Type 0) → Action → Type 0
+IsOf P Q (action.Split x) = P x
+IsOf P Q (action.Move x worker) = P x × Q worker
 
-module _ (P : ℕ → Type 0) (workers : ℕ) (some : 0 < workers) where
-  split-of : (found : Option Load) → ((l : Load) → found ≡ Some l → P l.shard) → All (IsOf P workers) (plan_of_split found)
-  split-of None has = All-nil (IsOf P workers)
+module _ (P Q : ℕ → Type 0) (workers : ℕ) (emptiest_is : (loads : List Load) → Q (emptiest loads workers)) where
+  split-of : (found : Option Load) → ((l : Load) → found ≡ Some l → P l.shard) → All (IsOf P Q) (plan_of_split found)
+  split-of None has = All-nil (IsOf P Q)
   split-of (Some l) has = on_bool (nat_le split_rows l.rows)
-      (λ q. rw q (All-cons (IsOf P workers) (action.Split l.shard) [] (has l refl) (All-nil (IsOf P workers))))
-      (λ q. rw q (All-nil (IsOf P workers)))
+      (λ q. rw q (All-cons (IsOf P Q) (action.Split l.shard) [] (has l refl) (All-nil (IsOf P Q))))
+      (λ q. rw q (All-nil (IsOf P Q)))
 
   -- each action of a plan is of a shard with a load
-  pub plan-of : (n : ℕ) (loads : List Load) → All P (shards_in loads) → All (IsOf P workers) (plan loads workers n)
-  plan-of zero loads all = All-nil (IsOf P workers)
+  pub plan-of : (n : ℕ) (loads : List Load) → All P (shards_in loads) → All (IsOf P Q) (plan loads workers n)
+  plan-of zero loads all = All-nil (IsOf P Q)
   plan-of (suc n) loads all =
       on_bool (nat_le (gap loads workers) even_gap)
-      (λ q. rw q (All-nil (IsOf P workers)))
+      (λ q. rw q (All-nil (IsOf P Q)))
       (λ q. rw q (by (to_move loads workers) refl (λ l. plan-of n (after_move loads l.shard (emptiest loads workers)) (all-shards P loads (after_move loads l.shard (emptiest loads workers)) (moved-shards loads l.shard (emptiest loads workers)) all))))
     where
-      by : (o : Option Load) → to_move loads workers ≡ o → ((l : Load) → All (IsOf P workers) (plan (after_move loads l.shard (emptiest loads workers)) workers n))
-          → All (IsOf P workers) (option_map_or (λ (l : Load). action.Move l.shard (emptiest loads workers) ∷ plan (after_move loads l.shard (emptiest loads workers)) workers n) o (plan_of_split (to_look_at loads workers)))
+      by : (o : Option Load) → to_move loads workers ≡ o → ((l : Load) → All (IsOf P Q) (plan (after_move loads l.shard (emptiest loads workers)) workers n))
+          → All (IsOf P Q) (option_map_or (λ (l : Load). action.Move l.shard (emptiest loads workers) ∷ plan (after_move loads l.shard (emptiest loads workers)) workers n) o (plan_of_split (to_look_at loads workers)))
       by None is rest = split-of (to_look_at loads workers)
           (λ l k. first-has (λ (z : Load). P z.shard) is_larger (filter (λ (z : Load). z.worker == fullest loads workers) loads) (all-filtered (λ (z : Load). P z.shard) (λ (z : Load). z.worker == fullest loads workers) loads (by-loads P loads all)) l k)
       by (Some l) is rest =
           let p : P l.shard = first-has (λ (z : Load). P z.shard) is_larger (filter (is_movable loads workers) loads) (all-filtered (λ (z : Load). P z.shard) (is_movable loads workers) loads (by-loads P loads all)) l is in
           let to = emptiest loads workers in
-          All-cons (IsOf P workers) (action.Move l.shard to) (plan (after_move loads l.shard to) workers n) (p, emptiest-there loads workers some)
+          All-cons (IsOf P Q) (action.Move l.shard to) (plan (after_move loads l.shard to) workers n) (p, emptiest_is loads)
           (rest l)
+
+-- the shard of each action of a plan is among the loads
+pub planned-stands : (b : Balance) (loads : List Load) (workers most : ℕ) → b.plan ≡ Some (plan loads workers most) → b.standing ≡ loads → HasLoadNext b
+planned-stands b loads workers most plan_is standing_is a is =
+    let here : slice_get (plan loads workers most) b.over ≡ Some a = sym (ap (option_and_then (λ (actions : List Action). slice_get actions b.over)) plan_is) ∙ is in
+    let each : All (λ x. has_load loads x ≡ true) (shards_in loads) =
+    All-weaker (λ x. list_any (λ y. y == x) (shards_in loads) ≡ true) (λ x. has_load loads x ≡ true) (λ x has. has-by-shard loads x ∙ has) (shards_in loads) (each-among (shards_in loads)) in
+    let all = plan-of (λ x. has_load loads x ≡ true) (λ w. ⊤) workers (λ l. tt) most loads each in
+    subst (λ (l : List Load). has_load l (shard_of a) ≡ true) (sym standing_is)
+    (of-shard a (all-behind (IsOf (λ x. has_load loads x ≡ true) (λ w. ⊤)) 0 b.over (plan loads workers most) a all (omega arith) here))
+  where
+    of-shard : (a : Action) → IsOf (λ x. has_load loads x ≡ true) (λ w. ⊤) a → has_load loads (shard_of a) ≡ true
+    of-shard (action.Split x) is = is
+    of-shard (action.Move x worker) is = is.0
 
 -- How many there are.
 

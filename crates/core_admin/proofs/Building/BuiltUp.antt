@@ -177,7 +177,7 @@ module _ (hs : List Dimension) (maps others : List Change) (gate_at registry_at 
   may-close (work_is.Balance b) same =
       let over = up.few b same in
       let done = done-few s v g i n up.of b job (command-here ∙ ap (doing up.of) same) (subst (λ (k : Work). IsJobOf k job) same its-job) in
-      record { count = record { of = up.of; balance = b; command_is = up.command ∙ ap (doing up.of) same; few = omega (arith, over, done) }; few = over; some = refl }
+      record { count = record { of = up.of; balance = b; command_is = up.command ∙ ap (doing up.of) same; few = omega (arith, over, done) }; few = over; stands = up.stands b same; some = refl }
   may-close (work_is.Action act) same = tt
   may-close (work_is.Insert row routed) same = tt
   may-close work_is.Query same = tt

@@ -132,6 +132,7 @@ module _ (hs : List Dimension) (stock_at ledger_at : ℕ) (stock ledger : CellVa
           balance = b;
           command_is = (λ k. Some (record { of = command.of; work = (work-is ∙ same) k }));
           few = due.few b same;
+          stands = due.stands b same;
           some = refl;
         }
         by (work_is.Action act) same true is = cc

@@ -7,7 +7,7 @@ use Rattle.shard_build.proofs.Lists.{zip-append}
 use Rattle.shard_plan.specs.{declared.action.Action.Action, declared.action.Load.Load}
 use Rattle.shard_plan.specs.declared.action.Action.TheVariants as action
 use Rattle.volap_cell.proofs.{OneEvent.Older.{Any-weaker, comes-stays, live-stays}, OneEvent.Work.{ahead-grown, read-load-grown}}
-use Rattle.volap_cell.specs.{Commands.after_action, ImageKinds.LeavesAs, Planning.{job_for, next_job}, Setting.{Setting, site_in}, Values.{JobValue, StageValue, IsCalled, IsDeclined, IsFrozen, Collects, Builds}, Working.{IsAhead, IsBalancing, IsDeclinedFor, IsPlanned, action_of, begun_job, IsReadLoad}, declared.command.Balance.Balance}
+use Rattle.volap_cell.specs.{Commands.after_action, ImageKinds.LeavesAs, Planning.{HasLoadNext, has_load, job_for, next_job}, Setting.{Setting, site_in}, Values.{JobValue, StageValue, IsCalled, IsDeclined, IsFrozen, Collects, Builds}, Working.{IsAhead, IsBalancing, IsDeclinedFor, IsPlanned, action_of, begun_job, IsReadLoad}, declared.command.Balance.Balance}
 
 -- Lists, one place on.
 
@@ -25,6 +25,31 @@ pub inside : {X : Type 0} (i : ℕ) (xs : List X) (x : X) → slice_get xs i ≡
 inside {X} i [] x is = (let never : ◌≡◌ {A = Option X} None (Some x) = is in absurd (cc))
 inside zero (y ∷ xs) x is = omega arith
 inside (suc i) (y ∷ xs) x is = (let more = inside i xs x is in omega (arith, more))
+
+-- what holds of all from a place on holds of each there
+pub all-behind : {X : Type 0} (P : X → Type 0) (k j : ℕ) (xs : List X) (x : X) → All P (drop k xs) → k ≤ j → slice_get xs j ≡ Some x → P x
+all-behind {X} P k j [] x all le is = (let never : ◌≡◌ {A = Option X} None (Some x) = is in absurd (cc))
+all-behind {X} P zero zero (y ∷ xs) x all le is = (let both : ◌≡◌ {A = Option X} (Some y) (Some x) = is in let same : y ≡ x = cc in subst P same (All-head P y xs all))
+all-behind P zero (suc j) (y ∷ xs) x all le is = all-behind P zero j xs x (All-tail P y xs all) (omega arith) is
+all-behind P (suc k) zero (y ∷ xs) x all le is = absurd (omega (arith, le))
+all-behind P (suc k) (suc j) (y ∷ xs) x all le is = all-behind P k j xs x all (omega (arith, le)) is
+
+-- Loads.
+
+-- what is planned, where an action is
+at-plan : (plan : Option (List Action)) (k : ℕ) (a : Action) → option_and_then (λ (xs : List Action). slice_get xs k) plan ≡ Some a → (actions : List Action) × (plan ≡ Some actions) × (slice_get actions k ≡ Some a)
+at-plan None k a is = (let never : ◌≡◌ {A = Option Action} None (Some a) = is in absurd (cc))
+at-plan (Some actions) k a is = (actions, refl, is)
+
+ahead-stands : (s : Setting) (h : List Event) (standing : List Load) (a : Action) → IsAhead s h standing a → has_load standing (shard_of a) ≡ true
+ahead-stands s h standing (action.Split x) ahead = ahead.0
+ahead-stands s h standing (action.Move x to) ahead = ahead.0.0
+
+-- the shard of the action behind the one that a balance is at is among its loads
+pub next-has-load : (s : Setting) (h : List Event) (placed : ℕ → Bool) (of : ℕ) (b : Balance) → ((actions : List Action) → b.plan ≡ Some actions → IsPlanned s h placed of b actions) → HasLoadNext (record b { over = b.over + 1 })
+next-has-load s h placed of b planned a is =
+    let k = at-plan b.plan (b.over + 1) a is in
+    ahead-stands s h b.standing a (all-behind (IsAhead s h b.standing) b.over (b.over + 1) k.0 a (planned k.0 k.1).ahead (omega arith) k.2)
 
 -- Jobs.
 

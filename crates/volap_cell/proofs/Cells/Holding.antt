@@ -2,7 +2,7 @@
 -- each cell that isn't free has its place.
 use Rattle.std.proofs.{Common.{◌≡◌, ◌≢◌, ℕ, ◌<◌, true, List, Option, Some, None, length, refl, sym, ap, ◌∙◌, subst, inl, inr}, lemmas.Bool.cases_lt}
 use Rattle.tree_shape.specs.Trees.{IsTree}
-use Rattle.volap_cell.specs.{Cells.{FreeCell, OfStock, has_block, tag_of}, Errands.{RowWay, RowPlace, Outside, AtBlock, InLeaf, AtRest, IsCarried, block_at, has_passed}, Ghost.{Ghost, InTree}, Growing.table_of, Invariant.InvWith, Setting.Setting, State.IsWorldOf, Stocking.{IsWhole, cells_at}, View.{View, view}, World.{World, MustKeep}, declared.actor.Actor.Actor, declared.cell.Cell.Cell}
+use Rattle.volap_cell.specs.{Cells.{FreeCell, has_block}, Errands.{RowWay, RowPlace, Outside, AtBlock, InLeaf, AtRest, IsCarried, block_at, has_passed}, Ghost.{Ghost, InTree}, Growing.table_of, Invariant.InvWith, Setting.Setting, State.IsWorldOf, Stocking.{IsWhole, cells_at}, View.{View, view}, World.{World, MustKeep}, declared.actor.Actor.Actor, declared.cell.Cell.Cell}
 use Rattle.volap_cell.proofs.{Histories.Standings.live-on}
 
 -- Who must keep a block.
@@ -81,7 +81,3 @@ has-place cells actors w y is taken = elim (cases_lt y (length cells)) [
   | inl lt ↦ lt
   | inr ge ↦ absurd (taken (is.no_cell y ge))
 ]
-
--- and so has each of those that aren't the stock's
-pub has-own-place : (cells : List (Option Cell)) (actors : List (Option Actor)) (w : World) (y : ℕ) → IsWorldOf cells actors w → tag_of (w.cells y) ≢ OfStock → y < length cells
-has-own-place cells actors w y is other = has-place cells actors w y is (λ free. other (ap tag_of free))

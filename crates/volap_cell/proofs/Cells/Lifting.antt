@@ -1,11 +1,11 @@
 -- Cells that are moved out one after the other, some of them at times only: those that are still to come can be moved out when the
 -- first ones are, and all of them stood at their places before.
-use Rattle.std.proofs.{Common.{◌≡◌, ◌≢◌, ℕ, Bool, List, [], ◌∷◌, ◌++◌, Option, Some, None, is_some, length, ◌<◌, get_or, set, arith, refl, sym, ap, ◌∙◌, subst}, lemmas.List.get_or-set_other}
-use Rattle.std.specs.Prelude.{⊤, option_map}
+use Rattle.std.proofs.{Common.{◌≡◌, ◌≢◌, ℕ, List, [], ◌∷◌, ◌++◌, Option, Some, None, length, get_or, set, sym, ap, ◌∙◌, subst}, lemmas.List.get_or-set_other}
+use Rattle.std.specs.Prelude.{⊤}
 use Rattle.dim_hierarchy.specs.Dimension.{Dimension}
 use Rattle.list_words.specs.Counts.{Each}
-use Rattle.volap_cell.specs.{Cells.cell_of, Setting.Setting, State.{Has, IsWorldOf, AreDifferent, CanLift, Stand, taken, given, cell_if, number_if, Exchange, exchange_if, numbers_of, cells_before, cells_now, changes_of, still, MayHold, Stepped}, Steps.{HasSight, Inv, Makes}, Values.actor_of, World.{World, Change, change_if, held_if}, declared.actor.Actor.Actor, declared.cell.Cell.Cell, declared.kind.Kind.Kind}
-use Rattle.volap_cell.proofs.Cells.States.{within, length-given, length-taken, taken-off, drives}
+use Rattle.volap_cell.specs.{Setting.Setting, State.{Has, IsWorldOf, AreDifferent, CanLift, Stand, taken, given, Exchange, numbers_of, cells_before, cells_now, changes_of, MayHold, Stepped}, Steps.{HasSight, Inv, Makes}, Values.actor_of, World.{World, Change}, declared.actor.Actor.Actor, declared.cell.Cell.Cell, declared.kind.Kind.Kind}
+use Rattle.volap_cell.proofs.Cells.States.{length-given, length-taken, taken-off, drives}
 
 -- Some and then others.
 
@@ -47,42 +47,6 @@ stand-others {A} xs out ys (t ∷ things) e apart st = (
   sym (taken-off ys xs t.0 apart.0) ∙ ap (λ (vs : List (Option A)). get_or vs t.0 None) (sym e) ∙ st.0,
   stand-others xs out ys things e apart.1 st.1,
 )
-
--- A cell at times.
-
-pub if-numbers : (y : ℕ) (wanted : Bool) (before now : Option Cell) → is_some before ≡ wanted → is_some now ≡ is_some before → numbers_of (exchange_if y before now) ≡ number_if y wanted
-if-numbers y wanted before now is e = subst (λ (v : Bool). numbers_of (exchange_if y before now) ≡ number_if y v) is (of-it before now e)
-  where
-    of-it : (before now : Option Cell) → is_some now ≡ is_some before → numbers_of (exchange_if y before now) ≡ number_if y (is_some before)
-    of-it None now e = refl
-    of-it (Some c) None e = absurd (cc)
-    of-it (Some c) (Some d) e = refl
-
-pub if-before : (y : ℕ) (before now : Option Cell) → is_some now ≡ is_some before → cells_before (exchange_if y before now) ≡ cell_if y before
-if-before y None now e = refl
-if-before y (Some c) None e = absurd (cc)
-if-before y (Some c) (Some d) e = refl
-
-pub if-now : (y : ℕ) (before now : Option Cell) → is_some now ≡ is_some before → cells_now (exchange_if y before now) ≡ cell_if y now
-if-now y None None e = refl
-if-now y None (Some d) e = absurd (cc)
-if-now y (Some c) None e = absurd (cc)
-if-now y (Some c) (Some d) e = refl
-
-pub if-changes : (y : ℕ) (before now : Option Cell) → changes_of (exchange_if y before now) ≡ change_if y (option_map cell_of before) (option_map cell_of now)
-if-changes y None now = refl
-if-changes y (Some c) None = refl
-if-changes y (Some c) (Some d) = refl
-
-pub if-still : (y : ℕ) (cell : Option Cell) → still (cell_if y cell) ≡ held_if y (option_map cell_of cell)
-if-still y None = refl
-if-still y (Some c) = refl
-
--- its place is there still
-pub if-within : (xs out : List (Option Cell)) (y : ℕ) (before now : Option Cell) → length out ≡ length xs → is_some now ≡ is_some before → Stand xs (cell_if y before) → Each (λ t. t.0 < length out) (cell_if y now)
-if-within xs out y before None long e st = tt
-if-within xs out y None (Some d) long e st = absurd (cc)
-if-within xs out y (Some c) (Some d) long e st = (let lt = within xs y c st.0 in (omega arith, tt))
 
 pub long-out : {A : Type 0} (xs out : List (Option A)) (ys : List ℕ) → out ≡ taken ys xs → length out ≡ length xs
 long-out {A} xs out ys e = ap (λ (vs : List (Option A)). length vs) e ∙ length-taken ys xs

@@ -1,10 +1,14 @@
 use Rattle.std.proofs.{Common.{ℕ, ℤ, ◌≡◌, refl, ap, sym, subst, ◌∙◌, rules, to_z, of_z, w64}, lemmas.Int.to_z-of_z}
+use Rattle.std.specs.Prelude.{IsSome}
 use Rattle.row_ledger.specs.{declared.event.Event.TheVariants.Begun}
 use Rattle.core_image.specs.NotesDue.{OpensInsert}
-use Rattle.volap_cell.specs.{Cells.{cell_of}, Lending.{owner_of, with_ledger, with_image}, Values.actor_of}
+use Rattle.volap_cell.specs.{Cells.{Tag, cell_of, owned_by}, Lending.{owner_of, with_ledger, with_image}, Values.actor_of}
 use Rattle.volap_cell.proofs.{Outcomes.as-err}
 use Rattle.core_image.proofs.{Here.Telling.tells-begun, EachStep.BeginsInsert.begin-makes}
 use Rattle.core_image.proofs.begins.begin_insert.Goals as goal
+
+pub owner_in-server-requires : goal.owner_in-server-requires
+owner_in-server-requires c = subst (λ (t : Tag). IsSome (owned_by t)) (sym c.requires.due.image_is) refl
 
 -- src/begins.rt:19:1
 pub returns-clause-made : goal.returns-clause-made

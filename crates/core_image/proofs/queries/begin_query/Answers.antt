@@ -1,9 +1,13 @@
 use Rattle.std.proofs.Common.{ℕ, ◌∙◌, refl, ap, sym, subst}
-use Rattle.volap_cell.specs.{Cells.{DeskCell, ImageCell, LedgerCell, cell_of}, Lending.{owner_of, with_ledger, with_desk}, ImageKinds.doing, Values.actor_of, declared.command.Work.TheVariants.Query}
+use Rattle.std.specs.Prelude.{IsSome}
+use Rattle.volap_cell.specs.{Cells.{Tag, DeskCell, ImageCell, LedgerCell, cell_of, owned_by}, Lending.{owner_of, with_ledger, with_desk}, ImageKinds.doing, Values.actor_of, declared.command.Work.TheVariants.Query}
 use Rattle.volap_cell.proofs.{Outcomes.as-err}
 use Rattle.core_image.specs.Asking.{OpensQuery}
 use Rattle.core_image.proofs.{Here.AskedHere.{can-ask, has-asked}, Here.Telling.tells-asked}
 use Rattle.core_image.proofs.queries.begin_query.Goals as goal
+
+pub owner_in-server-requires : goal.owner_in-server-requires
+owner_in-server-requires c = subst (λ (t : Tag). IsSome (owned_by t)) (sym c.requires.due.desk_is) refl
 
 -- src/queries.rt:55:5
 pub ask-requires : goal.ask-requires

@@ -1,9 +1,13 @@
 use Rattle.std.proofs.Common.{ℕ, ◌∙◌, refl, ap, sym, subst}
-use Rattle.volap_cell.specs.{Cells.{ImageCell, LedgerCell, RegistryCell, cell_of}, Lending.{owner_of, with_ledger, with_registry, with_image}, Values.actor_of}
+use Rattle.std.specs.Prelude.{IsSome}
+use Rattle.volap_cell.specs.{Cells.{Tag, ImageCell, LedgerCell, RegistryCell, cell_of, owned_by}, Lending.{owner_of, with_ledger, with_registry, with_image}, Values.actor_of}
 use Rattle.volap_cell.proofs.{Outcomes.as-err}
 use Rattle.core_image.specs.Pulling.{Pulls}
 use Rattle.core_image.proofs.Here.SyncedHere.{can-pull, few-pulls, has-synced}
 use Rattle.core_image.proofs.syncs.sync.Goals as goal
+
+pub owner_in-server-requires : goal.owner_in-server-requires
+owner_in-server-requires c = subst (λ (t : Tag). IsSome (owned_by t)) (sym c.requires.due.image_is) refl
 
 -- src/syncs.rt:53:5
 pub pull-requires : goal.pull-requires

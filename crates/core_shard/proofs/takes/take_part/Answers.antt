@@ -1,9 +1,12 @@
-use Rattle.std.proofs.Common.{ℕ, Option, Some, option_map, sym, ap, ◌∙◌, subst, ◌≡◌}
-use Rattle.std.specs.Prelude.{IfSome}
+use Rattle.std.proofs.Common.{ℕ, Option, Some, option_map, refl, sym, ap, ◌∙◌, subst, ◌≡◌}
+use Rattle.std.specs.Prelude.{IfSome, IsSome}
 use Rattle.query_router.specs.Desk.{IsAt, is_waiting}
-use Rattle.volap_cell.specs.{Cells.{DeskCell, cell_of}, Lending.owner_of, ShardKinds.errand_for, Values.{actor_of, errand_of}}
+use Rattle.volap_cell.specs.{Cells.{Tag, DeskCell, cell_of, owned_by}, Lending.owner_of, ShardKinds.errand_for, Values.{actor_of, errand_of}}
 use Rattle.core_shard.proofs.TakenReady.{take-makes, waiting-at}
 use Rattle.core_shard.proofs.takes.take_part.Goals as goal
+
+pub owner_in-server-requires : goal.owner_in-server-requires
+owner_in-server-requires c = subst (λ (t : Tag). IsSome (owned_by t)) (sym c.requires.due.desk_is) refl
 
 -- src/takes.rt:20:1
 pub returns : goal.returns

@@ -1,11 +1,8 @@
-use Rattle.std.proofs.Common.{◌<◌, length, arith}
-use Rattle.server_image.specs.Spots.{IsGrown, along}
-use Rattle.server_image.proofs.Boxes.{done-more}
+use Rattle.std.proofs.Common.{ℕ, List, subst, arith}
+use Rattle.server_image.specs.Spots.{Grows, along}
+use Rattle.server_image.proofs.Boxes.{alone}
 use Rattle.server_image.proofs.spots.grow_spots.Goals as goal
 
-pub loop-place-preserved : goal.loop-place-preserved
-loop-place-preserved c =
-    let l = c.loop-place in
-    let lt : l.place < length l.spots.items = omega (arith, l.invariant.3, c.loop-place-test.true, c.len-place-end.ensures) in
-    done-more c.args.h.now (λ old new. IsGrown c.args.h.now (along c.args.ids.now c.args.at.now old.shard) old new) l.place c.args.spots.now.items l.spots.items c.index_mut.result.now c.grow_spot.new.spot lt
-    c.index_mut.ensures.value c.grow_spot.ensures.grown c.grow_spot.ensures.valid l.invariant
+pub returns-then-ids-eq1-clause-grown : goal.returns-then-ids-eq1-clause-grown
+returns-then-ids-eq1-clause-grown c =
+    subst (λ (ids : List ℕ). Grows c.args.h.now (along ids c.args.at.now) c.args.spots.now.items c.grow_spot.new.spots.items) (alone c.args.ids.now (omega arith)) c.grow_spot.ensures.grown

@@ -1,14 +1,11 @@
-use Rattle.std.proofs.{Common.{◌≡◌, ◌∙◌, true, refl, sym}, lemmas.Bool.{OnTrue_at, OnTrue_from}}
-use Rattle.server_image.specs.Spots.{is_among}
-use Rattle.server_image.proofs.Boxes.{grown-last}
+use Rattle.std.proofs.lemmas.Bool.{OnTrue_at, OnTrue_from}
+use Rattle.server_image.proofs.Boxes.{Grows-kept, Grows-absent}
 use Rattle.server_image.proofs.spots.keeps_spot.Goals as goal
 
-pub returns-then-is_among : goal.returns-then-is_among
-returns-then-is_among c =
-    let spot = c.args.spot.now in
-    let among : is_among c.args.ids.now spot.shard ≡ true = sym c.is_among.ensures ∙ c.if-is_among.true in
-    OnTrue_from c.keeps.result _ (λ yes. record {
-      shard = refl;
-      worker = refl;
-      set = rw among (grown-last c.args.h.now c.laws.ensures.same c.args.at.now spot.set spot.set (OnTrue_at yes c.keeps.ensures));
-    })
+pub returns-in-Ok : goal.returns-in-Ok
+returns-in-Ok c =
+    let spot = c.index-spots-place.result in
+    OnTrue_from c.keeps_box.result _ (λ yes. Grows-kept c.args.h.now c.args.at.now c.args.id c.args.spots.now c.in-Ok.place spot c.requires.ascending c.in-Ok.ensures.found c.index-spots-place.is (OnTrue_at yes c.keeps_box.ensures))
+
+pub returns-in-Err : goal.returns-in-Err
+returns-in-Err c = Grows-absent c.args.h.now c.args.at.now c.args.id c.args.spots.now c.in-Err.ensures.absent
