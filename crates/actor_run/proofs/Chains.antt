@@ -1,11 +1,12 @@
 -- How what a session has seen is put together from one part of a call to the next.
-use Rattle.std.proofs.Common.{◌≡◌, ◌∙◌, ℕ, ◌≤◌, List, [], ◌∷◌, ◌++◌, length, Some, inl, inr, refl, sym, ap, subst, arith, length-append}
+use Rattle.std.proofs.Common.{◌≡◌, ◌∙◌, ℕ, ◌≤◌, List, [], ◌∷◌, ◌++◌, length, Some, inl, inr, sym, ap, subst, arith, length-append}
 use Rattle.actor_run.specs.{Doing.HasRefused, Sessions.{BeganNothing, Began, GoesOn, IsOneEvent, SessionValue}}
 use Rattle.row_ledger.specs.{Past.{event_at, session_in}, declared.event.Event.Event}
 use Rattle.row_ledger.specs.declared.event.Event.TheVariants.{Refused}
 use Rattle.script_run.specs.Places.{begins_of}
 use Rattle.script_run.proofs.{Begin.begins-own, PlaceFacts.begins_of-here}
-use Rattle.seat_steps.proofs.{Grown.at-pushed, Since.extends-on}
+use Rattle.session_steps.proofs.Grown.{at-pushed}
+use Rattle.seat_steps.proofs.Since.{extends-on}
 use Rattle.turn_table.specs.Numbered.{Extends}
 
 pub extends-length : (was now : List Event) → Extends now was → length was ≤ length now

@@ -1,6 +1,6 @@
 -- How a session's insert and its query come to their ends.
-use Rattle.std.proofs.Common.{◌≡◌, ◌∙◌, ℕ, ℤ, ◌≤◌, ◌⊎◌, false, true, List, [], ◌∷◌, length, is_none, position, Option, Some, None, inl, inr, refl, sym, ap, subst, arith}
-use Rattle.actor_run.specs.{Doing.{HasDone, HasRefused, HasTold}, Driving.{EndsSince, IsOpenSince}, Sessions.{BeganInsert, BeganNothing, BeganQuery, EndsInsert, EndsQuery, IsNewest, IsOneEvent, IsSession, SessionValue, session_of}}
+use Rattle.std.proofs.Common.{◌≡◌, ◌∙◌, ℕ, ℤ, ◌≤◌, ◌⊎◌, false, true, List, [], ◌∷◌, length, is_none, position, Some, inl, inr, refl, sym, ap, subst, arith}
+use Rattle.actor_run.specs.{Doing.{HasDone, HasRefused, HasTold}, Driving.{EndsSince, IsOpenSince}, Sessions.{Began, BeganInsert, BeganNothing, BeganQuery, EndsInsert, EndsQuery, IsNewest, IsOneEvent, IsSession, SessionValue, session_of}}
 use Rattle.actor_run.specs.declared.session.Asked.TheVariants as asked
 use Rattle.actor_run.specs.declared.session.Inserted.TheVariants as inserted
 use Rattle.actor_run.proofs.{Chains.extends-length, Opened.just-open, Sessions.{ended-since, number-is, server-is}}
@@ -10,9 +10,11 @@ use Rattle.measure_agg.specs.Aggregate.{Aggregate}
 use Rattle.row_ledger.specs.declared.event.Event.{Event}
 use Rattle.row_ledger.specs.declared.event.Event.TheVariants.{Asked, Begun, Refused}
 use Rattle.script_run.specs.Places.{begins_of}
-use Rattle.seat_steps.specs.{Begins.{CanBegin, HasAsked, HasBegunInsert, IsAsBefore, row_at}, Floors.Stands, declared.{commands.End.End, floor.{Floor.Floor, Player.Player}}}
-use Rattle.seat_steps.specs.declared.commands.End.TheVariants as end
-use Rattle.seat_steps.proofs.{Heard.begun-nothing, Since.extends-on}
+use Rattle.seat_steps.specs.{Booked.IsAsBefore, Floors.Stands, declared.floor.{Floor.Floor, Player.Player}}
+use Rattle.session_steps.specs.{Begins.{CanBegin, HasAsked, HasBegunInsert, row_at}, declared.commands.End.End}
+use Rattle.session_steps.specs.declared.commands.End.TheVariants as end
+use Rattle.session_steps.proofs.Heard.{begun-nothing}
+use Rattle.seat_steps.proofs.Since.{extends-on}
 use Rattle.volap_cell.specs.{ImageKinds.{IsFree, doing}, Values.{ActorValue, actor_of}, declared.command.Work.Work}
 use Rattle.volap_cell.specs.declared.command.Work.TheVariants as work_is
 
@@ -107,12 +109,16 @@ module _ (f : Floor) (server : ℕ) (was mid : Player) (s : IsSession f server w
     pub query-unacked : (now : Player) → EndsSince f end.Acked mid now → ⊥
     query-unacked now ended = (let is = (ended.ends of work_is.Query query-command).0 in let never : work_is.Query ≡ work_is.Insert is.0 is.1 = is.2 in cc)
 
+    -- it began so, and has ended by the newest event
+    pub query-ended : (r : End) (now : Player) → (ended : EndsSince f r mid now) → HasDone f (λ x y. Began of (Asked was.number server filter) x y × IsNewest ended.newest y) server was now
+    query-ended r now ended =
+        ended-since f server was s (asked_by filter) mid has.pushed of has.position (Asked was.number server filter)
+        (λ i. Asked (number-is f server was s i) (server-is f server was s i) filter) refl work_is.Query has.actor r now ended
+
     module _ (now : Player) (names : List NamePick) (named : IsFilterNamed f.hierarchy names filter) where
       began-query : (r : End) → (ended : EndsSince f r mid now) → HasDone f (λ x y. BeganQuery of names x y × IsNewest ended.newest y) server was now
       began-query r ended =
-          let did =
-          ended-since f server was s (asked_by filter) mid has.pushed of has.position (Asked was.number server filter)
-          (λ i. Asked (number-is f server was s i) (server-is f server was s i) filter) refl work_is.Query has.actor r now ended in
+          let did = query-ended r now ended in
           record { session = did.session; goes = did.goes; ends = (record { filter = filter; named = named; began = did.ends.0 }, did.ends.1) }
 
       pub query-answered : (agg : Aggregate) → EndsSince f (end.Answered agg) mid now → HasDone f (EndsQuery (asked.Answer of agg) names) server was now

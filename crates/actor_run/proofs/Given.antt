@@ -1,17 +1,17 @@
 -- A pass is put back: it is one of those that are out, and the seat has its actor then.
-use Rattle.std.proofs.Common.{◌≡◌, ◌≢◌, ◌⊎◌, ◌∙◌, ℕ, ◌+◌, ◌<◌, ◌≤◌, nat_lt, Bool, true, false, cond, List, [], ◌∷◌, ◌++◌, length, get_or, set, count_by, ◌==◌, Option, Some, None, inl, inr, refl, sym, ap, subst, arith, length-append, length-set, get_or-set_other, get_or-set_same, set-set}
+use Rattle.std.proofs.Common.{◌≡◌, ◌≢◌, ◌⊎◌, ◌∙◌, ℕ, ◌+◌, ◌<◌, ◌≤◌, nat_lt, Bool, true, false, cond, List, [], length, get_or, set, count_by, ◌==◌, Option, Some, None, inl, inr, refl, sym, ap, subst, arith, length-append, length-set, get_or-set_other, get_or-set_same, set-set}
 use mathlib.Core.Logic.{dite}
 use mathlib.Core.Option.{none, some, some-injective, some-ne-none}
-use native.Mathlib.Decide.{ℕ_discrete}
+use native.Mathlib.Decide.{ℕ_discrete, dec_lt}
 use lib.Seq.{set-get_or}
 use Rattle.actor_run.specs.Passes.{ArePasses, HasGiven, IsAt, IsIn, IsPass, missing, pass_of, passes_of}
-use Rattle.actor_run.proofs.{Missing.out-more, Seated.{below-count, none-held, setting-of, still-at}}
+use Rattle.actor_run.proofs.{Missing.{not-missing, out-more, out-once}, Seated.{below-count, is, is-actor, none-held, none-since, setting-of, still-at}}
 use Rattle.row_ledger.specs.{Right.IsRight, declared.event.Event.Event}
 use Rattle.seat_steps.specs.declared.floor.Player.{Player}
 use Rattle.turn_table.specs.{Numbered.{Extends, longer, value_of}, Seat.{SeatValue, cell_count}, Views.joined_view}
 use Rattle.turn_table.proofs.Numbered.{find_append_first, find_append_second, some_or_none}
 use Rattle.volap_cell.specs.{Setting.{Setting, site_in}, Sights.IsIdle, Values.{ActorValue, actor_of}, declared.actor.Actor.Actor, declared.cell.Cell.Cell}
-use Rattle.volap_turns.specs.{Rule.Rests, Wholes.CanBe}
+use Rattle.volap_turns.specs.{Rule.Rests, Wholes.CanBe, Worlds.past}
 
 -- the longer of two is one of them
 pub longer-one : (xs ys : List Event) → (longer xs ys ≡ xs) ⊎ (longer xs ys ≡ ys)
@@ -112,6 +112,33 @@ module _ {s : SeatValue Cell Actor Event} {own : Actor} {actors : List (Option A
       (λ (ne : a ≢ p.number). subst (λ (o : Option Actor). IsAt about t a o) (sym (get_or-set_other actors p.number a (Some p.actor) None ne))
       (still-at about s t a (get_or actors a None) (else-in a ne) own-long (are.each a (let l = length-set actors p.number (Some p.actor) in omega arith))))
 
+  -- Where a number isn't out, what its actor has noted had been seen.
+
+  abbrev noted : ℕ → ℕ
+  noted n = (possible.valid.world.actors n).seen
+
+  noted-in : (n : ℕ) (x : Actor) → n ≢ p.number → IsIn about s n x → noted n ≤ length s.view.seen
+  noted-in n x ne it = subst (λ (v : ActorValue). v.seen ≤ length s.view.seen) (sym (is-actor possible n it.last (else-in n ne ∙ it.has) ∙ it.same)) it.noted
+
+  noted-here : (n : ℕ) → n < length actors → count_by (λ k. k == n) (missing 0 actors) ≡ 0 → noted n ≤ length s.view.seen
+  noted-here n lt clear =
+      let it = not-missing actors n lt clear in
+      let ne : n ≢ p.number = λ e. (let once = out-once actors n lt (ap (λ k. get_or actors k None) e ∙ was-out) in omega (arith, once, clear)) in
+      noted-in n it.0 ne (subst (λ (o : Option Actor). IsAt about s n o) it.1 (are.each n lt))
+
+  noted-beyond : (n : ℕ) → length actors < n → noted n ≤ length s.view.seen
+  noted-beyond n gt =
+      let count : t.view.actor_count ≡ length actors + 1 = ap (λ (z : S). z.view.actor_count) joined ∙ are.count in
+      let zero : noted n ≡ 0 = ((is possible).no_actor n (past possible.actors n (omega (arith, count, possible.actor_count)))).seen in
+      omega (arith, zero)
+
+  noted-else : (n : ℕ) → count_by (λ k. k == n) (missing 0 actors) ≡ 0 → noted n ≤ length s.view.seen
+  noted-else n clear = dite (dec_lt n (length actors))
+      (λ (lt : n < length actors). noted-here n lt clear)
+      (λ (ge : ¬ (n < length actors)). dite (dec_lt (length actors) n)
+      (λ (gt : length actors < n). noted-beyond n gt)
+      (λ (le : ¬ (length actors < n)). (let b = below in subst (λ k. noted k ≤ length s.view.seen) (omega arith) (noted-in (length actors) own (λ e. omega arith) are.own_one))))
+
   seen-is : t.view.seen ≡ longer s.view.seen p.seat.view.seen
   seen-is = ap (λ (z : S). z.view.seen) joined
 
@@ -153,4 +180,6 @@ module _ {s : SeatValue Cell Actor Event} {own : Actor} {actors : List (Option A
       | inl e ↦ inl (seen-is ∙ e)
       | inr e ↦ inr (seen-is ∙ e)
     ];
+    begun = none-since possible p.number p.seat.view.seen lists.1 (subst (λ (v : ActorValue). v.seen ≤ length p.seat.view.seen) (sym (is-actor possible p.number pass.holds.one.last now-in ∙ pass.holds.one.same)) pass.noted);
+    others = λ n clear. none-since possible n s.view.seen lists.0 (noted-else n clear);
   })

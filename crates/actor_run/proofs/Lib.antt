@@ -10,4 +10,8 @@ pub mod Sessions
 pub mod Opened
 pub mod Ends
 pub mod Unknown
+pub mod CursorOpen
+pub mod CursorSteps
 pub mod Measured
+pub mod TwoSessions
+pub mod Sent

@@ -1,5 +1,5 @@
 -- The places where nothing stands, counted.
-use Rattle.std.proofs.{Common.{◌≡◌, ◌≢◌, ◌∙◌, ℕ, zero, suc, ◌+◌, ◌<◌, ◌==◌, Bool, true, cond, if◌then◌else◌, eqb, List, [], ◌∷◌, length, get_or, set, count_by, Option, Some, None, eq-eqb, ne_eqb, refl, sym, ap, subst, arith, length-set, get_or-set_same}, lemmas.List.Sums.sum_by-cons}
+use Rattle.std.proofs.{Common.{◌≡◌, ◌≢◌, ◌∙◌, ℕ, zero, suc, ◌+◌, ◌<◌, ◌==◌, Bool, cond, if◌then◌else◌, List, [], ◌∷◌, length, get_or, set, count_by, Option, Some, None, eq-eqb, ne_eqb, refl, sym, ap, subst, arith, length-set, get_or-set_same}, lemmas.List.Sums.sum_by-cons}
 use mathlib.Core.Logic.{dite}
 use native.Mathlib.Decide.{ℕ_discrete}
 use Rattle.actor_run.specs.Passes.{missing}
@@ -83,6 +83,14 @@ out-none actors m x lt here =
     let more = out-more actors m x here m in
     let one = ap one_if (eq-eqb m m refl) in
     omega (arith, once, more, one)
+
+-- a place that isn't counted has something
+pub not-missing : (actors : List (Option Actor)) (m : ℕ) → m < length actors → count_by (λ k. k == m) (missing 0 actors) ≡ 0 → (x : Actor) × (get_or actors m None ≡ Some x)
+not-missing actors m lt none = by (get_or actors m None) refl
+  where
+    by : (o : Option Actor) → get_or actors m None ≡ o → (x : Actor) × (get_or actors m None ≡ Some x)
+    by None e = absurd (let once = out-once actors m lt e in omega (arith, once, none))
+    by (Some x) e = (x, e)
 
 -- where none is counted something stands at each place
 pub none-missing : (n : ℕ) (actors : List (Option Actor)) → missing n actors ≡ [] → (a : ℕ) → a < length actors → (x : Actor) × (get_or actors a None ≡ Some x)

@@ -1,12 +1,15 @@
 -- A session's open command, from step to step until it ends.
-use Rattle.std.proofs.Common.{◌≡◌, ◌∙◌, ℕ, ◌≤◌, Bool, List, [], ◌∷◌, length, Option, Some, None, is_some, option_map, true, false, refl, sym, ap, subst, arith}
+use Rattle.std.proofs.Common.{◌≡◌, ◌∙◌, ℕ, ◌≤◌, [], length, Option, Some, None, is_some, option_map, true, false, refl, sym, ap, subst, arith}
 use Rattle.actor_run.specs.Driving.{EndsSince, IsOpenSince}
 use Rattle.actor_run.proofs.Chains.{extends-length}
 use Rattle.row_ledger.specs.declared.event.Event.{Event}
 use Rattle.script_run.specs.Places.{begins_of}
-use Rattle.seat_steps.specs.{Commands.{HasEnded, HasOpen, IsEndFor, IsEndOf, IsFurtherWork, IsOfSession, IsStillOpen}, Floors.Stands, Goings.WentOn, declared.{commands.End.End, floor.{Floor.Floor, Player.Player}}}
-use Rattle.seat_steps.specs.declared.commands.End.TheVariants as end
-use Rattle.seat_steps.proofs.{Heard.begun-nothing, Since.extends-on}
+use Rattle.part_steps.specs.Goings.{WentOn}
+use Rattle.seat_steps.specs.{Floors.Stands, declared.floor.{Floor.Floor, Player.Player}}
+use Rattle.session_steps.specs.{Commands.{HasEnded, HasOpen, IsEndFor, IsEndOf, IsFurtherWork, IsOfSession, IsStillOpen}, declared.commands.End.End}
+use Rattle.session_steps.specs.declared.commands.End.TheVariants as end
+use Rattle.session_steps.proofs.Heard.{begun-nothing}
+use Rattle.seat_steps.proofs.Since.{extends-on}
 use Rattle.volap_cell.specs.{ImageKinds.doing, Values.{ActorValue, ErrandValue, actor_of, errand_of}, declared.command.{Command.Command, Work.Work}, declared.role.Role.TheVariants.Session}
 use Rattle.volap_cell.specs.declared.command.Work.TheVariants as work_is
 
@@ -37,12 +40,12 @@ further-on (work_is.Insert row routed) mid now kind (r, e) second = subst (λ (m
 further-on work_is.Query mid now kind e second = subst (λ (m : Work). IsFurtherWork m now → now ≡ work_is.Query) (sym e) (λ (h : now ≡ work_is.Query). h) second
 further-on _ mid now kind e second = absurd kind
 
-further-kind : (work now : Work) → IsOfSession work → IsFurtherWork work now → IsOfSession now
+pub further-kind : (work now : Work) → IsOfSession work → IsFurtherWork work now → IsOfSession now
 further-kind (work_is.Insert row routed) now kind (r, e) = subst IsOfSession (sym e) tt
 further-kind work_is.Query now kind e = subst IsOfSession (sym e) tt
 further-kind _ now kind e = absurd kind
 
-further-end : (r : End) (work now : Work) → IsOfSession work → IsFurtherWork work now → IsEndFor r now → IsEndFor r work
+pub further-end : (r : End) (work now : Work) → IsOfSession work → IsFurtherWork work now → IsEndFor r now → IsEndFor r work
 further-end end.Acked (work_is.Insert row routed) now kind f h = (row, routed, refl)
 further-end end.Acked work_is.Query now kind e (row, routed, is) = absurd (let never : work_is.Query ≡ work_is.Insert row routed = sym e ∙ is in cc)
 further-end (end.Answered agg) (work_is.Insert row routed) now kind (r, e) is = absurd (let never : work_is.Insert row r ≡ work_is.Query = sym e ∙ is in cc)

@@ -1,5 +1,5 @@
 -- A hall opens: all passes are in, and have seen the opening.
-use Rattle.std.proofs.Common.{◌≡◌, ◌∙◌, ℕ, ◌+◌, ◌<◌, ◌^◌, false, List, [], ◌∷◌, ◌++◌, length, Option, None, inl, inr, refl, sym, ap, subst, arith, length-append}
+use Rattle.std.proofs.Common.{◌≡◌, ◌∙◌, ℕ, ◌+◌, ◌<◌, ◌^◌, false, List, [], ◌∷◌, ◌++◌, length, Option, inl, inr, refl, sym, ap, subst, arith, length-append}
 use mathlib.Core.Option as maybe
 use mathlib.Core.Option.{none, some}
 use lib.ListN.{get_elem?}
@@ -8,8 +8,9 @@ use Rattle.atomic_table.proofs.Lists.{at_last, at_longer}
 use Rattle.actor_run.specs.{Halls.{HasOpened, IsHallFor, hall_setting}, Opened.IsOpenedTable, Passes.{ArePasses, IsAt, IsIn, passes_of}}
 use Rattle.actor_run.proofs.{Missing.all-in, Seated.{right-whole, setting-of}}
 use Rattle.dim_hierarchy.specs.Dimension.{Dimension}
-use Rattle.row_ledger.specs.{Kept.IsOpeningHistory, Right.IsRight, declared.event.Event.Event, declared.settings.Use.Use}
-use Rattle.seat_steps.specs.declared.floor.Floor.{Floor}
+use Rattle.row_ledger.specs.{Kept.IsOpeningHistory, Right.{EachEvent, IsFirstPull, IsRight}, Site.Site, declared.event.Event.Event, declared.event.Event.TheVariants.Synced, declared.settings.Use.Use}
+use Rattle.script_run.specs.Places.{begins_in, begins_of}
+use Rattle.script_run.proofs.PlaceFacts.{begins_of-other}
 use Rattle.turn_table.specs.{Numbered.value_of, Seat.{SeatValue, cell_count}, Views.{HasAll, first_view, seen_of}}
 use Rattle.turn_table.proofs.{Numbered.{below_length, some_or_none, there}, Opened.{numbered_find, numbered_own}}
 use Rattle.volap_cell.specs.{Cells.{CellValue, ledger_in}, Filling.IsOpened, Opening.IsFresh, Setting.{Setting, actor_count, ledger_cell, site_in}, Values.{ActorValue, actor_of}, declared.actor.Actor.Actor, declared.cell.Cell.Cell, declared.role.Role.Role, declared.role.Role.TheVariants.Admin}
@@ -17,6 +18,19 @@ use Rattle.volap_turns.specs.{Rule.{all_there, history_of}, Wholes.CanBe, Worlds
 
 abbrev S : Type 0
 S = SeatValue Cell Actor Event
+
+-- In an opening no command has begun.
+
+begins-none : (site : Site) (past : List Event) (e : Event) (n : ℕ) → IsFirstPull site past e → begins_in n e ≡ false
+begins-none site past (Synced server listing) n is = refl
+begins-none site past _ n is = absurd is
+
+none-begun : (site : Site) (h : List Event) (n : ℕ) → EachEvent (IsFirstPull site) h → begins_of h n ≡ []
+unfolding begins_of
+none-begun site [] n pulls = refl
+none-begun site (e ∷ past) n pulls = begins_of-other e past n (begins-none site past e n pulls.0) ∙ none-begun site past n pulls.1
+
+-- What is opened.
 
 module _ {s : Setting} {t : TableId} {seat : S} (xs : List Actor) (own : Actor) (table : IsOpenedTable s t seat (xs ++ own ∷ [])) where
   abbrev ys : List Actor
@@ -91,6 +105,9 @@ module _ {s : Setting} {t : TableId} {seat : S} (xs : List Actor) (own : Actor) 
   pub opening-seen : IsOpeningHistory (site_in (actor_of own).setting) seat.view.seen
   opening-seen = subst (λ (z : Setting × List Event). IsOpeningHistory (site_in z.0) z.1) (λ i. (sym about i, sym seen-is i)) table.opened.opening.history
 
+  pub none-seen : (n : ℕ) → begins_of seat.view.seen n ≡ []
+  none-seen n = none-begun (site_in (actor_of own).setting) seat.view.seen n opening-seen.pulls
+
   pub pulls-seen : length seat.view.seen ≡ s.servers
   pulls-seen = ap (λ (h : List Event). length h) seen-is ∙ table.opened.opening.all_pulled
 
@@ -120,6 +137,7 @@ module _ {h : List Dimension} {with : Use} {roles : List Role} {t : TableId} {se
     all = all-in 0 xs;
     opening = opening-seen xs own ending;
     pulls = pulls-seen xs own ending;
+    begun = none-seen xs own ending;
   })
 
 -- A table over an opening.

@@ -1,11 +1,14 @@
 -- A pass becomes a session when its server's desk counts it, and a session a pass when it is counted no more.
-use Rattle.std.proofs.Common.{◌≡◌, ◌∙◌, ℕ, ◌^◌, ◌<◌, ◌≤◌, true, false, List, [], ◌++◌, length, Option, None, refl, sym, ap, subst, arith, length-append}
-use Rattle.actor_run.specs.{Passes.{IsPass, IsPassOf, pass_of}, Sessions.{IsPassFor, IsSession, IsSessionRole, session_for, session_of}}
+use Rattle.std.proofs.Common.{◌≡◌, ◌∙◌, ℕ, ◌^◌, ◌<◌, ◌≤◌, true, false, List, [], ◌++◌, length, Option, refl, sym, ap, subst, arith, length-append}
+use Rattle.actor_run.specs.{Passes.{IsPass, IsPassOf, pass_of}, Sessions.{BecomesPass, IsPassFor, IsSession, IsSessionRole, session_of}}
 use Rattle.atomic_table.specs.Seated.{TableId}
 use Rattle.dim_hierarchy.specs.Dimension.{Dimension}
 use Rattle.row_ledger.specs.declared.event.Event.{Event}
-use Rattle.seat_steps.specs.{Begins.IsAsBefore, Coming.{HasCome, HasEmptied, HasLeft, IsAtNothing}, Floors.{AreTold, Stands, kept_on}, declared.floor.{Floor.Floor, Player.Player}}
-use Rattle.seat_steps.proofs.{Heard.right-seen, Since.extends-on}
+use Rattle.seat_steps.specs.{Booked.IsAsBefore, Floors.{AreTold, Stands, kept_on}, declared.floor.{Floor.Floor, Player.Player}}
+use Rattle.session_steps.specs.Coming.{HasCome, HasEmptied, HasLeft, IsAtNothing}
+use Rattle.script_run.specs.Places.{begins_of}
+use Rattle.session_steps.proofs.Heard.{begun-nothing, right-seen}
+use Rattle.seat_steps.proofs.Since.{extends-on}
 use Rattle.turn_table.specs.Numbered.{Extends}
 use Rattle.volap_cell.specs.{Errands.way_of, ImageKinds.IsFree, Setting.actor_count, Sights.IsIdle, Values.{ActorValue, ErrandValue, actor_of}, declared.role.Role.TheVariants.Session}
 use Rattle.volap_turns.specs.Seats.{Holds}
@@ -66,7 +69,14 @@ module _ (f : Floor) (p : Player) (pass : IsPass p) where
       }
 
   pub pass-for : (now : Player) (server : ℕ) → (actor_of p.actor).role ≡ Session server → HasCome f p now → IsPassFor f (pass_of p) (session_of f server now)
-  pass-for now server role come = record { floor = refl; number = come.number; role = role; seen = come.seen }
+  pass-for now server role come = record {
+    floor = refl;
+    number = come.number;
+    role = role;
+    seen = come.seen;
+    begun = subst (λ (n : ℕ). begins_of now.seat.view.seen n ≡ begins_of p.seat.view.seen n) come.number
+        (begun-nothing f now come.stands.seated p.seat.view.seen come.seen (subst (λ (a : ActorValue). a.seen ≤ length p.seat.view.seen) (sym come.actor) pass.noted));
+  }
 
 -- A session.
 
@@ -109,5 +119,11 @@ module _ (f : Floor) (server : ℕ) (p : Player) (session : IsSession f server p
       pub session-own : IsPassOf f (pass_of now)
       session-own = (let seated = left.stands.seated in record { table = seated.holds.own; hierarchy = seated.holds.one.about; servers = seated.servers; workers = seated.workers })
 
-      pub session-made : session_for (pass_of now) (session_of f server p)
-      session-made = (left.number ∙ emptied.number, ap (λ (a : ActorValue). a.role) at-end ∙ session.role, later)
+      pub session-made : BecomesPass (session_of f server p) (pass_of now)
+      session-made = record {
+        number = left.number ∙ emptied.number;
+        role = ap (λ (a : ActorValue). a.role) at-end ∙ session.role;
+        seen = later;
+        begun = subst (λ (n : ℕ). begins_of now.seat.view.seen n ≡ begins_of p.seat.view.seen n) (left.number ∙ emptied.number)
+            (begun-nothing f now left.stands.seated p.seat.view.seen later (subst (λ (a : ActorValue). a.seen ≤ length p.seat.view.seen) (sym at-end) session.noted));
+      }

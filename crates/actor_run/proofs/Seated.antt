@@ -1,15 +1,17 @@
 -- What a seat knows of its actors: they are those of one state.
-use Rattle.std.proofs.Common.{◌≡◌, ◌∙◌, ℕ, ◌<◌, ◌≤◌, length, List, [], ◌∷◌, Option, Some, None, slice_get, refl, sym, ap, subst, arith}
-use mathlib.Core.Option.{some, none}
+use Rattle.std.proofs.Common.{◌≡◌, ◌∙◌, ℕ, ◌<◌, ◌≤◌, length, List, [], ◌∷◌, Option, Some, None, option_and_then, slice_get, refl, sym, ap, subst, arith}
+use mathlib.Core.Option.{some}
 use lib.ListN.{get_elem?}
-use Rattle.actor_run.specs.Passes.{IsAt, IsIn}
-use Rattle.row_ledger.specs.{Right.IsRight, declared.event.Event.Event}
-use Rattle.row_ledger.proofs.Growth.{IsRight-kept}
-use Rattle.turn_table.specs.{Numbered.{numbers_of, value_of}, Seat.SeatValue, Views.HasAll, declared.view.View.View}
+use Rattle.actor_run.specs.Passes.{IsAt}
+use Rattle.row_ledger.specs.{Past.{event_at, session_in}, Right.IsRight, declared.event.Event.Event}
+use Rattle.row_ledger.proofs.{Before.at-later, Growth.IsRight-kept}
+use Rattle.script_run.specs.Places.{begins_of}
+use Rattle.seat_steps.proofs.Since.{nothing-new}
+use Rattle.turn_table.specs.{Numbered.{Extends, numbers_of, value_of}, Seat.SeatValue, Views.HasAll, declared.view.View.View}
 use Rattle.turn_table.proofs.Numbered.{below_length, there}
 use Rattle.volap_cell.specs.{Setting.{Setting, actor_count, ledger_cell, site_in}, Steps.history_in, Values.{ActorValue, actor_of}, declared.actor.Actor.Actor, declared.cell.Cell.Cell}
 use Rattle.volap_cell.specs.Cells.{CellValue, ledger_in}
-use Rattle.volap_turns.specs.{Rule.history_of, Wholes.CanBe, Worlds.{IsWorld, is-world}}
+use Rattle.volap_turns.specs.{Wholes.CanBe, Worlds.{IsWorld, is-world}}
 
 -- a state that agrees with a view
 module _ {v : View Cell Actor Event} (p : CanBe v) where
@@ -39,6 +41,27 @@ module _ {v : View Cell Actor Event} (p : CanBe v) where
       let seen : history_in p.valid.world ≡ v.seen = ap (λ (c : CellValue). (ledger_in c).history) (is.cell ledger_cell ledger.0 ledger.1) ∙ p.whole all ledger.0 ledger.1 in
       subst (λ (h : List Event). IsRight (site_in p.valid.setting) h) seen
       (IsRight-kept (site_in p.valid.setting) p.valid.inv.ghost_of.placed (history_in p.valid.world) p.valid.inv.holds.telling.right)
+
+-- What has begun in the history that a seat has seen, by what each actor has noted in a state that agrees with its view.
+module _ {v : View Cell Actor Event} (p : CanBe v) where
+  grown : Extends (history_in p.valid.world) v.seen
+  grown =
+      let ledger = there p.cells ledger_cell (omega (arith, p.valid.wide)) in
+      let seen = p.agrees.seen ledger.0 ledger.1 in
+      (seen.0, ap (λ (c : CellValue). (ledger_in c).history) ((is p).cell ledger_cell ledger.0 ledger.1) ∙ seen.1)
+
+  last-begun : (a q : ℕ) → option_and_then session_in (event_at v.seen q) ≡ Some a → q < (p.valid.world.actors a).seen
+  last-begun a q own = by (event_at v.seen q) refl own
+    where
+      by : (o : Option Event) → event_at v.seen q ≡ o → option_and_then session_in o ≡ Some a → q < (p.valid.world.actors a).seen
+      by None at own = absurd (cc)
+      by (Some e) at own =
+          let in_all : event_at (history_in p.valid.world) q ≡ Some e = ap (λ (h : List Event). event_at h q) grown.1 ∙ at-later grown.0 v.seen q e at in
+          p.valid.inv.holds.telling.last a q (ap (option_and_then session_in) in_all ∙ own)
+
+  -- an actor that has noted no more than a part of it began nothing past that
+  pub none-since : (a : ℕ) (was : List Event) → Extends v.seen was → (p.valid.world.actors a).seen ≤ length was → begins_of v.seen a ≡ begins_of was a
+  none-since a was longer few = nothing-new a (p.valid.world.actors a).seen v.seen was longer (last-begun a) few
 
 -- What is at a place stays where the seat has as much.
 pub still-at : (about : Setting) (s t : SeatValue Cell Actor Event) (a : ℕ) (o : Option Actor) → value_of t.view.actors a ≡ value_of s.view.actors a → length s.view.seen ≤ length t.view.seen → IsAt about s a o → IsAt about t a o

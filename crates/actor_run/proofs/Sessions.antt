@@ -1,13 +1,15 @@
 -- What the steps of a session at its seat make of it.
-use Rattle.std.proofs.Common.{◌≡◌, ◌∙◌, ℕ, ◌<◌, ◌≤◌, ◌^◌, true, List, [], ◌∷◌, ◌++◌, length, Option, Some, None, inl, inr, refl, sym, ap, subst, arith}
-use Rattle.actor_run.specs.{Doing.{HasDone, HasRefused, HasTold}, Driving.EndsSince, Sessions.{BeganNothing, Began, GoesOn, IsNewest, IsOneEvent, IsSession, SessionValue, session_of, site_of}}
+use Rattle.std.proofs.Common.{◌≡◌, ◌∙◌, ℕ, ◌<◌, ◌≤◌, ◌^◌, true, List, [], ◌∷◌, ◌++◌, length, Some, None, inl, inr, refl, sym, ap, subst, arith}
+use Rattle.actor_run.specs.{Doing.{HasDone, HasRefused, HasTold}, Driving.EndsSince, Sessions.{BeganNothing, Began, IsNewest, IsOneEvent, IsSession, SessionValue, session_of}}
 use Rattle.actor_run.proofs.Chains.{began, extends-length, goes-on, refused-behind}
 use Rattle.core_image.specs.Told.{refused_by, unknown_by}
-use Rattle.row_ledger.specs.{Past.session_in, Right.IsRight, Site.Site, declared.event.Event.Event}
+use Rattle.row_ledger.specs.{Past.session_in, Right.IsRight, Site.{Site, site_of}, declared.event.Event.Event}
 use Rattle.row_ledger.specs.declared.event.Event.TheVariants.{Refused, Unknown}
 use Rattle.script_run.specs.Places.{begins_of}
-use Rattle.seat_steps.specs.{Begins.{CanBegin, HasNoted, HasPushed, IsAsBefore}, Coming.IsAtNothing, Floors.{IsSeated, Stands}, declared.{commands.End.End, floor.{Floor.Floor, Player.Player}}}
-use Rattle.seat_steps.proofs.{Heard.{begun-nothing, numbered, right-seen}, Since.extends-on}
+use Rattle.seat_steps.specs.{Booked.{HasPushed, IsAsBefore}, Floors.{Stands}, declared.floor.{Floor.Floor, Player.Player}}
+use Rattle.session_steps.specs.{Begins.{CanBegin, HasNoted}, Coming.IsAtNothing, declared.commands.End.End}
+use Rattle.session_steps.proofs.Heard.{begun-nothing, numbered, right-seen}
+use Rattle.seat_steps.proofs.Since.{extends-on}
 use Rattle.turn_table.specs.Numbered.{Extends}
 use Rattle.volap_cell.specs.{Commands.server_of, ImageKinds.{IsFree, doing}, Setting.{Setting, actor_count, site_in}, Values.{ActorValue, actor_of}, declared.command.Work.Work}
 
@@ -57,7 +59,7 @@ module _ (f : Floor) (server : ℕ) (was : Player) (s : IsSession f server was) 
       right = right;
     }
 
-    site : site_in (actor_of now.actor).setting ≡ site_of f
+    site : site_in (actor_of now.actor).setting ≡ site_of f.with f.hierarchy
     site = λ i. record { hierarchy = stands.seated.holds.one.about i; servers = stands.seated.servers i; workers = stands.seated.workers i }
 
     done : (Ends : SessionValue → SessionValue → Type 0) → Ends as_value (session_of f server now) → HasDone f Ends server was now
@@ -92,7 +94,7 @@ module _ (f : Floor) (server : ℕ) (was : Player) (s : IsSession f server was) 
     longer = extends-on mid.seat.view.seen pushed.older was.seat.view.seen (e ∷ [], event-is) pushed.behind
 
     -- that is so of what is seen later, where nothing has begun since
-    begun-since : (now : Player) → Extends now.seat.view.seen mid.seat.view.seen → begins_of now.seat.view.seen was.number ≡ begins_of mid.seat.view.seen was.number → Began of e as_value (session_of f server now)
+    pub begun-since : (now : Player) → Extends now.seat.view.seen mid.seat.view.seen → begins_of now.seat.view.seen was.number ≡ begins_of mid.seat.view.seen was.number → Began of e as_value (session_of f server now)
     begun-since now since same =
         began as_value (session_of f server now) of e pushed.older since.0 pushed.behind position pushed.only own
         (since.1 ∙ ap (λ (h : List Event). since.0 ++ h) event-is)

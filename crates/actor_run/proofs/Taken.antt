@@ -1,15 +1,15 @@
 -- A pass is taken out: its seat, and what is left.
-use Rattle.std.proofs.{Common.{◌≡◌, ◌≢◌, ◌∙◌, ℕ, ◌+◌, ◌<◌, ◌≤◌, false, List, [], ◌∷◌, length, get_or, set, slice_get, Option, Some, None, inl, inr, refl, sym, ap, subst, arith, length-set, get_or-set_other, get_or-set_same}}
+use Rattle.std.proofs.{Common.{◌≡◌, ◌≢◌, ◌∙◌, ℕ, ◌+◌, ◌<◌, ◌≤◌, false, List, [], length, get_or, set, slice_get, Option, Some, None, inl, inr, refl, sym, ap, subst, arith, length-set, get_or-set_other, get_or-set_same}}
 use mathlib.Core.Logic.{dite}
-use mathlib.Core.Option.{none, some, some-ne-none}
+use mathlib.Core.Option.{some, some-ne-none}
 use native.Mathlib.Decide.{ℕ_discrete, dec_lt}
-use Rattle.actor_run.specs.Passes.{ArePasses, HasTaken, IsAbout, IsAt, IsIn, IsOut, IsPass, IsPassOf, IsPassesOf, missing, pass_of, passes_of}
+use Rattle.actor_run.specs.Passes.{ArePasses, HasTaken, IsAbout, IsAt, IsIn, IsOut, IsPass, IsPassOf, IsPassesOf, pass_of, passes_of}
 use Rattle.actor_run.proofs.{Missing.{out-more, out-none, out-once}, Seated.{role-of, setting-of, still-at}}
 use Rattle.row_ledger.specs.{Right.IsRight, declared.event.Event.Event}
-use Rattle.seat_steps.specs.declared.floor.{Floor.Floor, Player.Player}
+use Rattle.seat_steps.specs.declared.floor.Floor.{Floor}
 use Rattle.turn_table.specs.{Numbered.{value_of, without}, Seat.{SeatValue, cell_count}, Views.{after_split, lone, split_view}}
 use Rattle.turn_table.proofs.Numbered.{find_here, found, without_else, without_here}
-use Rattle.volap_cell.specs.{Setting.{Setting, actor_count, site_in}, Sights.IsIdle, Values.{ActorValue, actor_of}, World.MustKeep, declared.actor.Actor.Actor, declared.cell.Cell.Cell, declared.role.Role.Role}
+use Rattle.volap_cell.specs.{Setting.{Setting, actor_count, site_in}, Sights.IsIdle, Values.{ActorValue, actor_of}, declared.actor.Actor.Actor, declared.cell.Cell.Cell}
 use Rattle.volap_turns.specs.{Rule.Rests, Wholes.CanBe}
 
 module _ {s : SeatValue Cell Actor Event} {own : Actor} {actors : List (Option Actor)} (are : ArePasses s own actors) where

@@ -1,5 +1,5 @@
 -- Names that are not known, first in a dimension.
-use Rattle.std.proofs.Common.{◌≡◌, ◌∙◌, ℕ, List, Option, Some, None, Result, Ok, Err, IfNone, IfSome, IsOk, IsOkUnless, is_ok, false, true, sym, ap, subst}
+use Rattle.std.proofs.Common.{◌≡◌, ◌∙◌, ℕ, Option, Some, None, Result, Ok, Err, IfNone, IfSome, IsOk, IsOkUnless, is_ok, false, true, sym, ap, subst}
 use Rattle.dim_hierarchy.specs.declared.hierarchy.FilterFault.{FilterFault}
 use Rattle.dim_hierarchy.specs.declared.hierarchy.FilterFault.TheVariants.{NoMemory, Unknown}
 

@@ -2,7 +2,8 @@
 use Rattle.std.specs.Prelude.{ℕ, ◌≡◌, ◌+◌, ◌<◌, ◌≤◌, List, [], ◌∷◌, ◌++◌, All, length}
 use Rattle.actor_run.specs.Passes.{AreAllIn, IsPassesOf, PassesValue}
 use Rattle.dim_hierarchy.specs.Dimension.{Dimension}
-use Rattle.row_ledger.specs.{Kept.IsOpeningHistory, declared.settings.Use.Use}
+use Rattle.row_ledger.specs.{Kept.IsOpeningHistory, Right.IsRight, Site.site_of, declared.settings.Use.Use}
+use Rattle.script_run.specs.Places.{begins_of}
 use Rattle.seat_steps.specs.declared.floor.Floor.{Floor}
 use Rattle.volap_cell.specs.{Filling.setting_for, Numbering.IsSetting, Setting.{Setting, site_in}, declared.role.Role.{Role}, declared.role.Role.TheVariants.{Admin, Session}, declared.state.State.State}
 use Rattle.volap_turns.specs.Wholes.{HasHistory, IsWhole}
@@ -23,7 +24,7 @@ pub record IsHallFor (h : List Dimension) (with : Use) (roles : List Role) : Typ
   pub sessions : All IsSession roles
   pub few : length roles ≤ 256
 
--- All passes are in, and have seen the opening: one pull of each server.
+-- All passes are in, and have seen the opening: one pull of each server. No session has begun a command there.
 pub record HasOpened (h : List Dimension) (with : Use) (roles : List Role) (f : Floor) (p : PassesValue) : Type 0 where
   pub hierarchy : f.hierarchy ≡ h
   pub settings : f.with ≡ with
@@ -32,8 +33,11 @@ pub record HasOpened (h : List Dimension) (with : Use) (roles : List Role) (f : 
   pub all : AreAllIn p
   pub opening : IsOpeningHistory (site_in p.setting) p.seen
   pub pulls : length p.seen ≡ with.servers
+  pub begun : (n : ℕ) → begins_of p.seen n ≡ []
 
--- The state meets the invariant, and its history is what the passes have seen.
+-- The state meets the invariant, and is about what the passes are. Its history is what they have seen, and is right.
 pub record HasClosed (f : Floor) (p : PassesValue) (s : State) : Type 0 where
   pub whole : IsWhole f.hierarchy s.cells.items s.actors.items
+  pub setting : whole.sound.setting ≡ p.setting
   pub history : HasHistory s.cells.items s.actors.items p.seen
+  pub right : IsRight (site_of f.with f.hierarchy) p.seen

@@ -4,3 +4,4 @@ pub mod Opened
 pub mod Driving
 pub mod Sessions
 pub mod Doing
+pub mod Cursors

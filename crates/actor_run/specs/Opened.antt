@@ -1,5 +1,5 @@
 -- A table over an opening, and the seat that has all its actors.
-use Rattle.std.specs.Prelude.{ℕ, ◌≡◌, false, List, [], Option}
+use Rattle.std.specs.Prelude.{◌≡◌, false, List, []}
 use Rattle.atomic_table.specs.Seated.{TableId}
 use Rattle.row_ledger.specs.declared.event.Event.{Event}
 use Rattle.turn_table.specs.{Seat.{SeatValue, cell_count}, Views.first_view}

@@ -3,6 +3,7 @@ use Rattle.std.specs.Prelude.{ℕ, ◌≡◌, ◌==◌, ◌+◌, ◌^◌, ◌<�
 use mathlib.Core.Option.{some, none}
 use Rattle.atomic_table.specs.Seated.{TableId}
 use Rattle.row_ledger.specs.{Right.IsRight, declared.event.Event.Event}
+use Rattle.script_run.specs.Places.{begins_of}
 use Rattle.seat_steps.specs.declared.floor.{Floor.Floor, Player.Player}
 use Rattle.turn_table.specs.{Numbered.{Extends, value_of}, Seat.{SeatValue, cell_count}}
 use Rattle.volap_cell.specs.{Setting.{Setting, actor_count, site_in}, Sights.IsIdle, Values.actor_of, declared.actor.Actor.Actor, declared.cell.Cell.Cell, declared.role.Role.Role}
@@ -111,10 +112,13 @@ pub record HasTaken (number : ℕ) (was now : PassesValue) (pass : PassValue) : 
   pub now_is : now ≡ record was { out = now.out }
   pub out : (k : ℕ) → count_by (λ x. x == k) now.out ≡ count_by (λ x. x == k) was.out + (if k == number then 1 else 0)
 
--- A pass is in again, and the longer of the two histories has been seen.
+-- A pass is in again, and the longer of the two histories has been seen. Of that pass nothing has begun there that it hadn't seen, and of
+-- the numbers that were not out nothing that the others hadn't.
 pub record HasGiven (pass : PassValue) (was now : PassesValue) : Type 0 where
   pub same : now ≡ record was { out = now.out; seen = now.seen }
   pub out : (k : ℕ) → count_by (λ x. x == k) was.out ≡ count_by (λ x. x == k) now.out + (if k == pass.number then 1 else 0)
   pub longer : Extends now.seen was.seen
   pub as_pass : Extends now.seen pass.seen
   pub one : (now.seen ≡ was.seen) ⊎ (now.seen ≡ pass.seen)
+  pub begun : begins_of now.seen pass.number ≡ begins_of pass.seen pass.number
+  pub others : (n : ℕ) → count_by (λ k. k == n) was.out ≡ 0 → begins_of now.seen n ≡ begins_of was.seen n

@@ -1,17 +1,17 @@
 -- What the calls of a session promise: of the history that it had seen and of the one that it has seen then, the newest event first.
-use Rattle.std.specs.Prelude.{ℕ, ℤ, ◌≡◌, ◌^◌, ◌<◌, ◌≤◌, ◌⊎◌, true, List, [], ◌∷◌, ◌++◌, length, position, is_none, Option, Some, None}
+use Rattle.std.specs.Prelude.{ℕ, ℤ, ◌≡◌, ◌^◌, ◌<◌, ◌≤◌, ◌⊎◌, true, List, [], ◌∷◌, ◌++◌, length, position, is_none, Some}
 use mathlib.Core.Option.{some}
 use Rattle.actor_run.specs.Passes.{PassValue}
-use Rattle.dim_hierarchy.specs.{Dimension.Dimension, Filter.{IsFilterNamed, picks}, Row.{IsCoordNamed, leaves}, declared.filter.{NamePick.NamePick, Pick.Pick}, declared.row.Coord.Coord}
-use Rattle.measure_agg.specs.Aggregate.{Aggregate}
-use Rattle.row_ledger.specs.{Past.event_at, Right.IsRight, Site.Site, declared.event.Event.Event}
+use Rattle.dim_hierarchy.specs.{Filter.{IsFilterNamed, picks}, Row.{IsCoordNamed, leaves}, declared.filter.{NamePick.NamePick, Pick.Pick}, declared.row.Coord.Coord}
+use Rattle.row_ledger.specs.{Past.event_at, Right.IsRight, Site.site_of, declared.event.Event.Event}
 use Rattle.row_ledger.specs.declared.event.Event.TheVariants.{Acked, Answered, Asked, Begun, Failed, Refused, Unknown}
 use Rattle.script_run.specs.Places.{begins_of}
 use Rattle.actor_run.specs.declared.session.Asked.TheVariants as asked
 use Rattle.actor_run.specs.declared.session.Inserted.TheVariants as inserted
 use Rattle.actor_run.specs.declared.session.Asked.{Asked as AskedAnswer}
 use Rattle.actor_run.specs.declared.session.Inserted.{Inserted}
-use Rattle.seat_steps.specs.{Begins.row_at, Floors.Stands, declared.floor.{Floor.Floor, Player.Player}}
+use Rattle.seat_steps.specs.{Floors.Stands, declared.floor.{Floor.Floor, Player.Player}}
+use Rattle.session_steps.specs.Begins.{row_at}
 use Rattle.turn_table.specs.Numbered.{Extends, value_of}
 use Rattle.volap_cell.specs.{ImageKinds.IsFree, Setting.{actor_count, site_in}, Values.actor_of, declared.actor.Actor.Actor, declared.role.Role.Role, declared.role.Role.TheVariants.Session}
 
@@ -45,20 +45,20 @@ pub record IsSessionWith (f : Floor) (server : ℕ) (p : Player) (seen : ℕ) : 
 abbrev pub IsSessionRole : Role → Type 0
 IsSessionRole role = (server : ℕ) × (role ≡ Session server)
 
--- it is the session of the pass, and has seen what that had or more
+-- It is the session of the pass, and has seen what that had or more. It has begun nothing there that the pass hadn't seen.
 pub record IsPassFor (f : Floor) (pass : PassValue) (s : SessionValue) : Type 0 where
   pub floor : s.floor ≡ f
   pub number : s.number ≡ pass.number
   pub role : pass.role ≡ Session s.server
   pub seen : Extends s.seen pass.seen
+  pub begun : begins_of s.seen pass.number ≡ begins_of pass.seen pass.number
 
--- the pass is that of the session, and has seen what that had or more
-abbrev pub session_for : PassValue → SessionValue → Type 0
-session_for pass s = (pass.number ≡ s.number) × (pass.role ≡ Session s.server) × Extends pass.seen s.seen
-
--- what a hall's history is about
-abbrev pub site_of : Floor → Site
-site_of f = record { hierarchy = f.hierarchy; servers = f.with.servers; workers = f.with.workers }
+-- The session becomes this pass, which has seen what it had or more. The session has begun nothing there that it hadn't seen.
+pub record BecomesPass (s : SessionValue) (pass : PassValue) : Type 0 where
+  pub number : pass.number ≡ s.number
+  pub role : pass.role ≡ Session s.server
+  pub seen : Extends pass.seen s.seen
+  pub begun : begins_of pass.seen s.number ≡ begins_of s.seen s.number
 
 -- Calls.
 
@@ -66,7 +66,7 @@ site_of f = record { hierarchy = f.hierarchy; servers = f.with.servers; workers 
 pub record GoesOn (was now : SessionValue) : Type 0 where
   pub same : now ≡ record was { seen = now.seen }
   pub later : Extends now.seen was.seen
-  pub right : IsRight (site_of now.floor) now.seen
+  pub right : IsRight (site_of now.floor.with now.floor.hierarchy) now.seen
 
 -- Its command began with this event, at or past the end of what it had seen; it began nothing else.
 pub record Began (of : ℕ) (e : Event) (was now : SessionValue) : Type 0 where

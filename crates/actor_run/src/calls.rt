@@ -1,21 +1,22 @@
 //! What a session's calls do at its seat.
-ghost use Rattle.std.specs.Prelude.{ℕ, ◌≡◌, ◌<◌, List, All, length, IfSome, IfNone};
+ghost use Rattle.std.specs.Prelude.{ℕ, ◌≡◌, ◌<◌, List, All, length, IfSome, IfNone, IfOk, IfErr, OnOk, OnErr};
+ghost use Rattle.actor_run.specs.Cursors.{IsNoAnswer};
 ghost use Rattle.actor_run.specs.Doing.{Does, HasTold, HasRefused};
 ghost use Rattle.actor_run.specs.Sessions.{EndsInsert, EndsQuery, IsSession};
 ghost use Rattle.dim_hierarchy.specs.Filter.{IsFilterNamed, IsFilterOf};
 ghost use Rattle.dim_hierarchy.specs.Names.{IsNamePick};
 ghost use Rattle.dim_hierarchy.specs.Row.{IsCoordNamed, IsCoordOf};
 ghost use Rattle.dim_hierarchy.specs.declared.filter.NamePick.{NamePick};
-ghost use Rattle.seat_steps.specs.Begins.{CanBegin, HasAsked, IsAsBefore};
+ghost use Rattle.seat_steps.specs.Booked.{IsAsBefore};
+ghost use Rattle.session_steps.specs.Begins.{CanBegin, HasAsked};
 ghost use Rattle.seat_steps.specs.Floors.{Stands};
 
 use crate::bell::Bell;
 use crate::driving::drive;
 use crate::session::{Asked, Inserted};
 use dim_hierarchy::{Coord, Filter, FilterFault, Measures, NameFilter, RowNames};
-use seat_steps::{
-    Begun, End, Floor, Player, begin_insert, begin_query, hear, note_refused, note_unknown,
-};
+use seat_steps::{Floor, Player};
+use session_steps::{Begun, End, begin_insert, begin_query, hear, note_refused, note_unknown};
 use std::alloc::Global;
 use std::sync::Wait;
 use volap_io::Meet;
@@ -97,19 +98,9 @@ pub(crate) fn query<R: Wait + Sync, M: Meet>(
     ensures does { Does floor.now (EndsQuery result filter.now) player.old player.new }
     ensures seen { seen.new ≡ length player.new.seat.view.seen }
 {
-    match floor.hierarchy.filter(alloc, filter) {
+    match filter_for(rt, alloc, floor, player, seen, filter) {
         Ok(picks) => query_with(rt, alloc, floor, bell, player, seen, picks, meet),
-        Err(FilterFault::Unknown { dim }) => {
-            if note(rt, alloc, floor, player, seen, dim) {
-                Asked::Unknown { dim }
-            } else {
-                Asked::NoMemory
-            }
-        }
-        Err(FilterFault::NoMemory) => {
-            refuse(rt, alloc, floor, player, seen);
-            Asked::NoMemory
-        }
+        Err(answer) => answer,
     }
 }
 
@@ -143,9 +134,44 @@ fn query_with<R: Wait + Sync, M: Meet>(
     }
 }
 
+/// The filter of these picks by name. Where there is none, the answer says why, and the session has noted that. `seen` is then how
+/// many events it has seen.
+pub(crate) fn filter_for<R: Wait>(
+    rt: &R,
+    alloc: Global,
+    floor: &Floor,
+    player: &mut Player,
+    seen: &mut u64,
+    names: &NameFilter,
+) -> Result<Filter, Asked>
+    requires session { (server : ℕ) × IsSession floor.now server player.old }
+    requires count { length names.now ≡ length floor.now.hierarchy }
+    requires some { All IsNamePick names.now }
+    ensures named { IfOk result (IsFilterNamed floor.now.hierarchy names.now) }
+    ensures same { OnOk result (player.new ≡ player.old) }
+    ensures refused { IfErr result (λ answer. Does floor.now (EndsQuery answer names.now) player.old player.new) }
+    ensures no_answer { IfErr result IsNoAnswer }
+    ensures seen { OnErr result (seen.new ≡ length player.new.seat.view.seen) }
+{
+    match floor.hierarchy.filter(alloc, names) {
+        Ok(filter) => Ok(filter),
+        Err(FilterFault::Unknown { dim }) => {
+            if note(rt, alloc, floor, player, seen, dim) {
+                Err(Asked::Unknown { dim })
+            } else {
+                Err(Asked::NoMemory)
+            }
+        }
+        Err(FilterFault::NoMemory) => {
+            refuse(rt, alloc, floor, player, seen);
+            Err(Asked::NoMemory)
+        }
+    }
+}
+
 /// The session begins a query as soon as the desk of its server is empty. The answer is the position of the event, and `None`
 /// where there is no memory.
-fn ask<R: Wait>(
+pub(crate) fn ask<R: Wait>(
     rt: &R,
     alloc: Global,
     floor: &Floor,
@@ -175,7 +201,13 @@ fn ask<R: Wait>(
 
 /// The session notes that its next command finds no memory, where there is memory for that. `seen` is then how many events it has
 /// seen.
-fn refuse<R: Wait>(rt: &R, alloc: Global, floor: &Floor, player: &mut Player, seen: &mut u64)
+pub(crate) fn refuse<R: Wait>(
+    rt: &R,
+    alloc: Global,
+    floor: &Floor,
+    player: &mut Player,
+    seen: &mut u64,
+)
     requires session { (server : ℕ) × IsSession floor.now server player.old }
     ensures does { Does floor.now HasRefused player.old player.new }
     ensures seen { seen.new ≡ length player.new.seat.view.seen }

@@ -4,7 +4,9 @@ ghost use Rattle.actor_run.specs.Driving.{EndsSince, GoesSince, IsOpenSince};
 ghost use Rattle.seat_steps.specs.declared.floor.Player.{Player};
 
 use crate::bell::Bell;
-use seat_steps::{Did, End, Floor, Next, Player, go_on_at_part, go_on_with_command};
+use part_steps::{Did, go_on_at_part};
+use seat_steps::{Floor, Player};
+use session_steps::{End, Next, go_on_with_command};
 use std::alloc::Global;
 use std::sync::Wait;
 use volap_cell::{Actor, Command, Work};

@@ -4,13 +4,17 @@
 
 mod bell;
 mod calls;
+mod cursor;
 mod driving;
+mod gates;
 mod hall;
 mod passes;
 mod session;
 #[cfg(test)]
 mod tests;
 
+pub use cursor::{Cursor, Visit};
 pub use hall::Hall;
 pub use passes::{Pass, Passes};
 pub use session::{Asked, Inserted, Session};
+pub use turn_table::Busy;

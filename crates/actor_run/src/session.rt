@@ -1,17 +1,22 @@
 //! The calls of a session.
-ghost use Rattle.std.specs.Prelude.{◌≡◌, length, All};
+ghost use Rattle.std.specs.Prelude.{◌≡◌, length, All, IfOk, IfErr};
+ghost use Rattle.actor_run.specs.Cursors.{IsCursorFor, IsNoAnswer};
 ghost use Rattle.actor_run.specs.Passes.{IsPassOf};
-ghost use Rattle.actor_run.specs.Sessions.{DoesInsert, DoesQuery, IsPassFor, IsSessionRole, session_for};
+ghost use Rattle.actor_run.specs.Sessions.{BecomesPass, DoesInsert, DoesQuery, IsPassFor, IsSessionRole};
 ghost use Rattle.dim_hierarchy.specs.Names.{IsNamePick};
 
 use crate::calls::{insert, query};
+use crate::cursor::Cursor;
+use crate::gates::begin;
 use crate::hall::Hall;
 use crate::passes::Pass;
 use dim_hierarchy::{Measures, NameFilter, RowNames};
 use measure_agg::Agg;
-use seat_steps::{Player, come, empty_purse, hear, leave};
+use seat_steps::Player;
+use session_steps::{come, empty_purse, hear, leave};
 use std::alloc::Global;
 use std::marker::Model;
+use std::snapshot::Snapshot;
 use std::sync::Wait;
 use volap_cell::Role;
 use volap_io::Meet;
@@ -134,6 +139,49 @@ impl<'a> Session<'a> {
         )
     }
 
+    /// Begins a query, takes its first part that waits and goes on with it until it has read a gate, or no part waits. Where the
+    /// query can't begin, the session comes back with the answer, which says why.
+    pub fn cursor<R: Wait>(
+        self,
+        rt: &R,
+        alloc: Global,
+        filter: &NameFilter,
+    ) -> Result<Cursor<'a>, (Session<'a>, Asked)>
+        requires count { length filter.now ≡ length self.floor.hierarchy }
+        requires some { All IsNamePick filter.now }
+        ensures asked { IfOk result (IsCursorFor filter.now self.entry) }
+        ensures refused { IfErr result (λ r. DoesQuery r.1 filter.now self.entry r.0) }
+        ensures no_answer { IfErr result (λ r. IsNoAnswer r.1) }
+    {
+        let Session {
+            hall,
+            server,
+            mut player,
+            mut seen,
+        } = self;
+        let was = Snapshot::of(&player);
+        let bell = hall.bell(server);
+        match begin(rt, alloc, &hall.floor, bell, &mut player, &mut seen, filter) {
+            Ok((of, filter)) => Ok(Cursor {
+                hall,
+                server,
+                player,
+                of,
+                was,
+                filter,
+            }),
+            Err(answer) => {
+                let session = Session {
+                    hall,
+                    server,
+                    player,
+                    seen,
+                };
+                Err((session, answer))
+            }
+        }
+    }
+
     /// How many events of the history the session has seen.
     pub fn seen(&self) -> u64
         ensures { result ≡ length self.now.seen }
@@ -144,7 +192,7 @@ impl<'a> Session<'a> {
     /// The session's pass again. Its server's desk counts it no more. Takes no memory.
     pub fn end<R: Wait>(self, rt: &R) -> Pass
         ensures of { IsPassOf self.entry.floor result }
-        ensures made { session_for result self.entry }
+        ensures made { BecomesPass self.entry result }
     {
         let Session {
             hall,

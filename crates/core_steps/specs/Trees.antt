@@ -1,11 +1,12 @@
 -- What the steps of rows and queries at a gate or a block are, where their cells are, and what they ask.
-use Rattle.std.specs.Prelude.{ℕ, List, ◌∷◌, Option, Some, Bool, true, false}
+use Rattle.std.specs.Prelude.{ℕ, ◌≤◌, List, ◌∷◌, Option, Some, Bool, true, false}
 use Rattle.core_steps.specs.Places.{one_at, two_at}
 use Rattle.core_steps.specs.declared.trees.TreeStep.{TreeStep}
 use Rattle.core_steps.specs.declared.trees.TreeStep.TheVariants as tree
-use Rattle.core_tree.specs.{Due.CanPutInLeaf, DueAtGates.{CanEnterQueue, CanGiveBack, CanLeaveTree, CanRefill}, ReadDue.{CanBlockVisit, CanGateRead}}
+use Rattle.core_tree.specs.{Due.CanPutInLeaf, DueAtGates.{CanEnterQueue, CanGiveBack, CanLeaveTree, CanRefill}, ReadDue.{CanBlockVisit, CanGateRead, room_to_note}}
 use Rattle.dim_hierarchy.specs.Dimension.{Dimension}
-use Rattle.volap_cell.specs.{Cells.CellValue, Setting.stock_cell, Values.ActorValue, declared.kind.Kind.Kind}
+use Rattle.link_descent.specs.Visit.{most_noted}
+use Rattle.volap_cell.specs.{Cells.CellValue, Setting.stock_cell, Values.ActorValue, declared.actor.Actor.Actor, declared.kind.Kind.Kind}
 use Rattle.volap_cell.specs.declared.kind.Kind.TheVariants as kind
 
 abbrev pub tree_kind : TreeStep → Kind
@@ -43,3 +44,8 @@ tree_may_fail (tree.ReadGate map gate) = true
 tree_may_fail (tree.VisitBlock block) = true
 tree_may_fail tree.Refill = true
 tree_may_fail step = false
+
+-- whether it finds its memory in the rooms of its actor
+abbrev pub tree_has_room : TreeStep → Actor → Type 0
+tree_has_room (tree.VisitBlock block) a = most_noted ≤ room_to_note a
+tree_has_room step a = ⊥

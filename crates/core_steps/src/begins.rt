@@ -39,6 +39,8 @@ impl CellStep for BeginStep {
 
     ghost may_fail = { λ step. true };
 
+    ghost has_room = { λ step actor. ⊥ };
+
     fn places(&self) -> Places {
         match self {
             BeginStep::Insert { image, .. } => Places::Two(*image, ledger_place()),

@@ -41,6 +41,8 @@ impl CellStep for BookStep {
 
     ghost may_fail = { book_may_fail };
 
+    ghost has_room = { λ step actor. ⊥ };
+
     fn places(&self) -> Places {
         let ledger = ledger_place();
         match self {

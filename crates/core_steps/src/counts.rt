@@ -29,6 +29,8 @@ impl CellStep for CountStep {
 
     ghost may_fail = { λ step. false };
 
+    ghost has_room = { λ step actor. ⊥ };
+
     fn places(&self) -> Places {
         match self {
             CountStep::Comes { desk } | CountStep::Goes { desk } => Places::One(*desk),

@@ -81,6 +81,8 @@ impl CellStep for JobStep {
 
     ghost may_fail = { job_may_fail };
 
+    ghost has_room = { λ step actor. ⊥ };
+
     fn places(&self) -> Places {
         match self {
             JobStep::ReadLoad { map, gate, .. } => Places::Two(*map, *gate),

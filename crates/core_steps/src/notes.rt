@@ -42,6 +42,8 @@ impl<'a> CellStep for NoteStep<'a> {
 
     ghost may_fail = { note_may_fail };
 
+    ghost has_room = { λ step actor. ⊥ };
+
     fn places(&self) -> Places {
         match self {
             NoteStep::Asking { .. } => Places::Two(registry_place(), ledger_place()),

@@ -38,6 +38,8 @@ impl CellStep for PartStep {
 
     ghost may_fail = { part_may_fail };
 
+    ghost has_room = { λ step actor. ⊥ };
+
     fn places(&self) -> Places {
         match self {
             PartStep::TakePart { desk } | PartStep::FinishPart { desk } => Places::One(*desk),

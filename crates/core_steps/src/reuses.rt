@@ -32,6 +32,8 @@ impl CellStep for ReuseStep {
 
     ghost may_fail = { λ step. false };
 
+    ghost has_room = { λ step actor. ⊥ };
+
     fn places(&self) -> Places {
         match self {
             ReuseStep::Block { gate, block } => {

@@ -56,6 +56,8 @@ impl CellStep for RowStep {
 
     ghost may_fail = { λ step. false };
 
+    ghost has_room = { λ step actor. ⊥ };
+
     fn places(&self) -> Places {
         match self {
             RowStep::Down {

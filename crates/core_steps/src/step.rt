@@ -52,6 +52,7 @@ pub trait CellStep: Sized {
     ghost use Rattle.volap_cell.specs.Steps.{IsHere};
     ghost use Rattle.volap_cell.specs.Values.{ActorValue, actor_of};
     ghost use Rattle.volap_cell.specs.World.{World};
+    ghost use Rattle.volap_cell.specs.declared.actor.Actor.{Actor};
     ghost use Rattle.volap_cell.specs.declared.kind.Kind.{Kind};
 
     /// Its kind.
@@ -71,6 +72,9 @@ pub trait CellStep: Sized {
 
     /// Whether it may find no memory.
     ghost may_fail: { Self → Bool };
+
+    /// Whether it finds its memory in the rooms of its actor.
+    ghost has_room: { Self → Actor → Type 0 };
 
     /// Where its cells are.
     fn places(&self) -> Places
@@ -93,5 +97,6 @@ pub trait CellStep: Sized {
         ensures went { OnOk result (Went h.now (kind self) (sees self) (places self) (held first.old second.old others.old) (held first.new second.new others.new) (actor_of actor.old) (actor_of actor.new)) }
         ensures told { OnOk result (tells self (actor_of actor.old) (values (held first.old second.old others.old)) (values (held first.new second.new others.new))) }
         ensures sure { may_fail self ≡ false → IsOk result }
+        ensures room { has_room self actor.old → IsOk result }
         ensures refused { OnErr result (((held first.new second.new others.new) ≡ (held first.old second.old others.old)) × (actor_of actor.new ≡ actor_of actor.old)) };
 }

@@ -26,7 +26,7 @@ pub enum TreeStep {
 
 impl CellStep for TreeStep {
     ghost use Rattle.std.specs.Prelude.{⊤};
-    ghost use Rattle.core_steps.specs.Trees.{tree_asks, tree_kind, tree_may_fail, tree_places};
+    ghost use Rattle.core_steps.specs.Trees.{tree_asks, tree_has_room, tree_kind, tree_may_fail, tree_places};
 
     ghost kind = { tree_kind };
 
@@ -39,6 +39,8 @@ impl CellStep for TreeStep {
     ghost tells = { λ step a was now. ⊤ };
 
     ghost may_fail = { tree_may_fail };
+
+    ghost has_room = { tree_has_room };
 
     fn places(&self) -> Places {
         match self {

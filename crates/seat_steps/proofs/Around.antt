@@ -4,7 +4,7 @@ use mathlib.Core.Option.{none, some, some-injective}
 use Rattle.core_due.specs.Ready.{IsFree}
 use Rattle.core_steps.specs.Places.{numbers, values, values_at}
 use Rattle.list_words.specs.Counts.{Each}
-use Rattle.seat_steps.specs.{Floors.{IsAround, IsSeated, Stands, kept_by}, Looks.Sees, Takes.Takes, declared.floor.{Floor.Floor, Player.Player}}
+use Rattle.seat_steps.specs.{Floors.{IsAround, IsSeated, Stands, kept_by}, Looks.Sees, Takes.TakesTurn, declared.floor.{Floor.Floor, Player.Player}}
 use Rattle.seat_steps.proofs.{Left.no-numbers, Told.kept-told}
 use Rattle.turn_table.specs.{Numbered.{numbers_of, value_of}, Seat.{cell_count, free_rank}}
 use Rattle.turn_table.proofs.Numbered.{below_length, find_append_first, find_append_second, find_here, find_same}
@@ -88,7 +88,7 @@ module _ (f : Floor) (p : Player) where
 
 -- One cell more.
 
-module _ {cell rank : ℕ} {was now : Player} (took : Takes cell rank was now) where
+module _ {cell : ℕ} {rank : Option ℕ} {was now : Player} (took : TakesTurn cell rank was now) where
   -- those before are still held, and have what they had
   pub still-held : (k : ℕ) (c : Cell) → value_of was.seat.view.held k ≡ some c → value_of now.seat.view.held k ≡ some c
   still-held k c e = ap (λ (l : List (ℕ × Cell)). value_of l k) took.held ∙ find_append_first was.seat.view.held ((cell, took.value) ∷ []) k c e

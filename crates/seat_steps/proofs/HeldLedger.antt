@@ -9,6 +9,7 @@ use Rattle.list_words.specs.Counts.{Each}
 use Rattle.row_ledger.specs.declared.event.Event.{Event}
 use Rattle.seat_steps.specs.{Made.HasMade, declared.floor.Player.Player}
 use Rattle.turn_table.specs.{Numbered.value_of, Views.seen_of}
+use Rattle.turn_table.proofs.Numbered.{none_same}
 use Rattle.volap_cell.specs.{Cells.{CellValue, FreeCell, cell_of, ledger_in}, ImageKinds.Pushes, Kinds.Does, Setting.{Setting, ledger_cell}, State.{Exchange, changes_of, exchange_if}, Values.{ActorValue, actor_of}, World.{Change, World, change}, declared.cell.Cell.Cell, declared.kind.Kind.Kind}
 use Rattle.volap_turns.proofs.Known.{there-same}
 use Rattle.volap_turns.specs.{Rows.{AreAt, IsThere, cells_for, maybe_cell}, Rule.history_of}
@@ -65,6 +66,10 @@ HasSeenAll p = (c : Cell) → value_of p.seat.view.held ledger_cell ≡ some c �
 abbrev pub IsNewest : Event → ℕ → Player → Player → Type 0
 IsNewest e seen was now = (now.seat.view.seen ≡ e ∷ was.seat.view.seen) × (seen ≡ length now.seat.view.seen)
 
+-- the newest event that is seen is this one of the actor
+abbrev pub PushesBy : (ActorValue → ℕ → Event) → Player → Player → Type 0
+PushesBy event_of was now = now.seat.view.seen ≡ event_of (actor_of was.actor) (length was.seat.view.seen) ∷ was.seat.view.seen
+
 -- the ledger has the event more
 pub pushed : {e : Event} {more used seen : ℕ} {l : Change} → Pushes e more used l seen → (history_in l.now ≡ e ∷ history_in l.before) × (seen ≡ length (history_in l.now))
 pushed {e} p = (
@@ -95,3 +100,12 @@ module _ {h : List Dimension} {kind : Kind} {Sees : Setting → World → ℕ �
 
     pub newest : {e : Event} {more used seen : ℕ} → Pushes e more used (changed was.seat.view.held made.new ledger_cell) seen → IsNewest e seen was now
     newest {e} p = (let q = pushed p in (seen-now ∙ q.0 ∙ ap (λ (events : List Event). e ∷ events) seen-was, q.1 ∙ ap (λ (events : List Event). length events) (sym seen-now)))
+
+    -- the event that a step tells is pushed
+    pub told-by : (event_of : ActorValue → ℕ → Event)
+        → history_in (held_at made.new ledger_cell) ≡ event_of (actor_of was.actor) (length (history_in (held_at was.seat.view.held ledger_cell))) ∷ history_in (held_at was.seat.view.held ledger_cell) → PushesBy event_of was now
+    told-by event_of told = seen-now ∙ told ∙ ap (λ (events : List Event). event_of (actor_of was.actor) (length events) ∷ events) seen-was
+
+  -- without the ledger a step leaves it as it was
+  pub seen-same : value_of was.seat.view.held ledger_cell ≡ none → now.seat.view.seen ≡ was.seat.view.seen
+  seen-same off = made.seen ∙ ap (λ (o : maybe.Option Cell). seen_of history_of o was.seat.view.seen) (none_same was.seat.view.held made.new ledger_cell (sym made.numbers) off)

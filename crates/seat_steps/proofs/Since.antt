@@ -5,13 +5,11 @@ use Rattle.row_ledger.proofs.Positions.{event_at-here, event_at-older, event_at-
 use Rattle.row_ledger.specs.{Past.{event_at, session_in}, declared.event.Event.Event}
 use Rattle.script_run.proofs.PlaceFacts.{begins_of-other}
 use Rattle.script_run.specs.Places.{begins_in, begins_of}
-use Rattle.seat_steps.proofs.Around.{bare-held}
-use Rattle.seat_steps.proofs.CommandsMade.{EndsBy, IsFurther, PushesBy}
-use Rattle.seat_steps.specs.{Begins.{HasPushed, IsAsBefore}, Booked.{HasBooked, IsUnchanged}, Commands.{HasEnded, HasOpen, IsEndOf, IsStillOpen}, Floors.{Stands, kept_by, kept_on}, Takes.{IsSameActor}, declared.{commands.End.End, floor.{Floor.Floor, Player.Player}}}
-use Rattle.seat_steps.specs.declared.commands.End.TheVariants as end
+use Rattle.seat_steps.proofs.{Around.bare-held, HeldLedger.PushesBy}
+use Rattle.seat_steps.specs.{Booked.{HasBooked, HasPushed, IsAsBefore, IsUnchanged}, Floors.{Stands, kept_by, kept_on}, Takes.IsSameActor, declared.floor.{Floor.Floor, Player.Player}}
 use Rattle.turn_table.proofs.Numbered.{starts_self}
 use Rattle.turn_table.specs.Numbered.{Extends}
-use Rattle.volap_cell.specs.{Cells.CellValue, Errands.way_of, ImageKinds.doing, Setting.Setting, Values.{ActorValue, actor_of}, World.World, declared.kind.Kind.Kind}
+use Rattle.volap_cell.specs.{Cells.CellValue, Errands.way_of, Setting.Setting, Values.{ActorValue, actor_of}, World.World, declared.kind.Kind.Kind}
 
 -- What is known where a step went.
 
@@ -54,18 +52,6 @@ as-before f stands same = record { stands = stands; number = same.number; actor 
 pub refused-unchanged : {T E : Type 0} (r : Result T E) (was now : Player) → OnErr r (now.number ≡ was.number) → OnErr r (actor_of now.actor ≡ actor_of was.actor) → OnErr r (now.seat.view.seen ≡ was.seat.view.seen) → OnErr r (IsUnchanged was now)
 refused-unchanged (Ok x) was now number actor seen = tt
 refused-unchanged (Err x) was now number actor seen = record { number = number; actor = actor; seen = subst (λ l. Extends l was.seat.view.seen) (sym seen) (starts_self was.seat.view.seen) }
-
-abbrev pub open-since : {was now : Player} → actor_of now.actor ≡ actor_of was.actor → HasOpen was → HasOpen now
-open-since same has = record {
-  server = has.server;
-  role = ap (λ (a : ActorValue). a.role) same ∙ has.role;
-  of = has.of;
-  work = has.work;
-  command = ap (λ (a : ActorValue). a.command) same ∙ has.command;
-  kind = has.kind;
-  no_part = ap (λ (a : ActorValue). a.errand) same ∙ has.no_part;
-  no_job = ap (λ (a : ActorValue). a.job) same ∙ has.no_job;
-}
 
 -- An actor at no part keeps nothing between its steps.
 
@@ -111,12 +97,6 @@ nothing-new n noted now was longer last few = ap (λ l. begins_of l n) longer.1 
     go [] f = refl
     go (e ∷ es) f = newest n noted was e es f (go es (λ q is. older n noted was e es f q is)) few
 
--- an end begins nothing
-ends-none : (e : End) (of : ℕ) (x : Event) (n : ℕ) → IsEndOf e of x → begins_in n x ≡ false
-ends-none end.Acked of x n is = ap (begins_in n) is.1
-ends-none (end.Answered agg) of x n is = ap (begins_in n) is
-ends-none end.Failed of x n is = ap (begins_in n) is
-
 -- Steps with the ledger.
 
 module _ {f : Floor} {kind : Kind} {See : Setting → World → ℕ → Type 0} {Tells : ActorValue → (was now : List (Option CellValue)) → Type 0} {row : List (Option ℕ)} (p : Player) {was now : Player} (same : IsUnchanged p was) (booked : HasBooked f kind See Tells row was now) where
@@ -134,25 +114,6 @@ module _ {f : Floor} {kind : Kind} {See : Setting → World → ℕ → Type 0} 
   none-since few = nothing-new p.number (actor_of p.actor).seen (booked.mid).seat.view.seen p.seat.view.seen mid-same.seen
       (λ q e. subst (λ (a : ActorValue). q < a.seen) same.actor (booked.noted q (e ∙ ap Some (sym same.number)))) few
 
-  -- the command has ended
-  pub ended-since : (e : End) → HasOpen was → EndsBy e booked.mid now → HasEnded f e p now
-  ended-since e has by =
-      let its = by.ends has.of has.work (ap (λ (a : ActorValue). a.command) (ap actor_of booked.took.same.actor) ∙ has.command) in
-      record {
-        stands = booked.stands;
-        number = number-since;
-        older = (booked.mid).seat.view.seen;
-        behind = mid-same.seen;
-        newest = by.newest;
-        now_is = by.now_is;
-        right = booked.right;
-        only = λ few. ap (λ l. begins_of l p.number) by.now_is ∙ begins_of-other by.newest (booked.mid).seat.view.seen p.number (ends-none e has.of by.newest p.number its.1) ∙ none-since few;
-        ends = λ of work command. (
-            let it = by.ends of work (ap (λ (a : ActorValue). a.command) mid-same.actor ∙ command) in
-            (it.0, it.1, it.2 ∙ ap (λ (a : ActorValue). record a { command = None; seen = length now.seat.view.seen }) mid-same.actor)
-            );
-      }
-
   -- the event is pushed
   abbrev pub pushed-since : (event_of : ActorValue → ℕ → Event) → PushesBy event_of booked.mid now → (actor_of p.actor).seen ≤ length p.seat.view.seen → HasPushed f event_of p now
   pushed-since event_of by few = record {
@@ -164,17 +125,3 @@ module _ {f : Floor} {kind : Kind} {See : Setting → World → ℕ → Type 0} 
     only = none-since few;
     right = booked.right;
   }
-
--- Steps without the ledger.
-
--- the command is still open
-pub open-still : {f : Floor} {p was now : Player} → IsUnchanged p was → Stands f now → now.number ≡ was.number → IsFurther (actor_of was.actor) (actor_of now.actor) → Extends now.seat.view.seen was.seat.view.seen → IsStillOpen f p now
-open-still {f} {p} {was} {now} same stands number further seen = record {
-  stands = stands;
-  number = number ∙ same.number;
-  command = λ of work command. (
-      let it = further of work (ap (λ (a : ActorValue). a.command) same.actor ∙ command) in
-      (it.0, it.1, it.2 ∙ ap (λ (a : ActorValue). record a { command = doing of it.0; errand = (actor_of now.actor).errand }) same.actor)
-      );
-  seen = extends-on now.seat.view.seen was.seat.view.seen p.seat.view.seen seen same.seen;
-}

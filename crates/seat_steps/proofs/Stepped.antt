@@ -1,17 +1,16 @@
 -- A seat behind a step that was made, or that found no memory.
-use Rattle.std.proofs.Common.{◌≡◌, ◌≢◌, ◌∙◌, ℕ, List, Option, Some, Result, Ok, Err, refl, sym, ap, subst}
+use Rattle.std.proofs.Common.{◌≡◌, ◌≢◌, ◌∙◌, ℕ, List, Option, Some, Result, Ok, Err, sym, ap, subst}
 use Rattle.std.specs.Prelude.{OnErr, OnOk}
 use mathlib.Core.Logic.{dite}
-use mathlib.Core.Option as maybe
 use native.Mathlib.Decide.{ℕ_discrete}
-use Rattle.core_steps.specs.{Places.values, Steps.Went}
+use Rattle.core_steps.specs.Steps.{Went}
 use Rattle.row_ledger.specs.declared.event.Event.{Event}
 use Rattle.seat_steps.specs.{Floors.{AreTold, IsSeated, kept_by}, Made.{HasMade, IsKeptBy}, Takes.GaveAll, declared.floor.{Floor.Floor, Player.Player}}
 use Rattle.seat_steps.proofs.Told.{kept-told}
-use Rattle.turn_table.specs.{Numbered.{after_first, value_of}, Seat.{SeatValue, free_rank}, Views.seen_of, declared.view.View.View}
+use Rattle.turn_table.specs.{Numbered.{after_first, value_of}, Seat.{SeatValue, free_rank}, declared.view.View.View}
 use Rattle.turn_table.proofs.Numbered.{find_same, replace_else}
-use Rattle.volap_cell.specs.{Cells.CellValue, Setting.{Setting, ledger_cell}, Values.{ActorValue, actor_of}, World.World, declared.actor.Actor.Actor, declared.cell.Cell.Cell, declared.kind.Kind.Kind}
-use Rattle.volap_turns.specs.{Rows.cells_for, Rule.history_of, Seats.{HasStepped, Holds, IsStillHeld}}
+use Rattle.volap_cell.specs.{Cells.CellValue, Setting.Setting, Values.{ActorValue, actor_of}, World.World, declared.actor.Actor.Actor, declared.cell.Cell.Cell, declared.kind.Kind.Kind}
+use Rattle.volap_turns.specs.{Rows.cells_for, Seats.{HasStepped, Holds, IsStillHeld}}
 use Rattle.volap_turns.proofs.Turned.{numbers-first}
 
 module _ (f : Floor) (was : Player) (kind : Kind) (Sees : Setting → World → ℕ → Type 0) (Tells : ActorValue → (was now : List (Option CellValue)) → Type 0) (row : List (Option ℕ)) (seated : IsSeated f was)

@@ -1,38 +1,21 @@
 -- Steps by which the history gets an event: the ledger is held behind the other cells. What they ask, and what they come to.
-use Rattle.std.specs.Prelude.{ℕ, ◌≡◌, ◌+◌, ◌^◌, ◌<◌, ⊤, true, false, List, [], ◌∷◌, ◌++◌, length, Option, Some, None, IsSome, option_and_then}
+use Rattle.std.specs.Prelude.{ℕ, ◌≡◌, ◌<◌, ⊤, List, [], ◌∷◌, ◌++◌, length, Option, Some, option_and_then}
 use mathlib.Core.Option.{some}
 use Rattle.core_due.specs.Ready.{IsPrepared}
-use Rattle.core_image.specs.Asking.{IsSum}
-use Rattle.core_steps.specs.{Places.numbers, declared.books.BookStep.BookStep}
-use Rattle.core_steps.specs.declared.books.BookStep.TheVariants as book
+use Rattle.core_steps.specs.Places.{numbers}
 use Rattle.dim_hierarchy.specs.Dimension.{Dimension}
-use Rattle.measure_agg.specs.Aggregate.{Aggregate}
-use Rattle.query_router.specs.{Desk.{DeskValue, sum_of, verdict_of}, declared.part.Verdict.TheVariants.Sum}
-use Rattle.row_ledger.specs.{Past.{event_at, session_in}, Right.IsRight}
-use Rattle.seat_steps.specs.{Floors.{IsAround, Stands}, Looks.Sees, Made.{HasMade, IsKeptBy}, Takes.{Takes}, declared.{commands.End.End, floor.{Floor.Floor, Player.Player}}}
-use Rattle.seat_steps.specs.declared.commands.End.TheVariants as end
-use Rattle.turn_table.specs.{Numbered.{Extends, numbers_of, value_of}, Seat.{IsInOrder, cell_count}}
-use Rattle.volap_cell.specs.{Cells.{CellValue, desk_in}, Setting.{Setting, image_cell, ledger_cell, site_in}, Values.{ActorValue, actor_of}, World.World, declared.cell.Cell.Cell, declared.command.Work.Work, declared.kind.Kind.Kind, declared.role.Role.TheVariants.Session}
-use Rattle.volap_cell.specs.declared.command.Work.TheVariants as work_is
-use Rattle.volap_turns.specs.{Rows.{AreAt, IsThere}, Rule.history_of}
+use Rattle.row_ledger.specs.{Past.{event_at, session_in}, Right.IsRight, declared.event.Event.Event}
+use Rattle.script_run.specs.Places.{begins_of}
+use Rattle.seat_steps.specs.{Floors.{IsAround, Stands}, Made.{HasMade, IsKeptBy}, Takes.Takes, declared.floor.{Floor.Floor, Player.Player}}
+use Rattle.turn_table.specs.{Numbered.{Extends, numbers_of, value_of}, Seat.IsInOrder}
+use Rattle.volap_cell.specs.{Cells.CellValue, Setting.{Setting, ledger_cell, site_in}, Values.{ActorValue, actor_of}, World.World, declared.cell.Cell.Cell, declared.kind.Kind.Kind}
+use Rattle.volap_turns.specs.{Rows.AreAt, Rule.history_of}
 
 -- the same actor, whatever rooms are in it, which has seen as much or more
 pub record IsUnchanged (was now : Player) : Type 0 where
   pub number : now.number ≡ was.number
   pub actor : actor_of now.actor ≡ actor_of was.actor
   pub seen : Extends now.seat.view.seen was.seat.view.seen
-
--- Cells.
-
--- a session's server has its desk and its image in these cells
-pub record AreBooksOf (f : Floor) (p : Player) (desk image : ℕ) : Type 0 where
-  pub server : ℕ
-  pub role : (actor_of p.actor).role ≡ Session server
-  pub low : server < f.with.servers
-  pub bytes : f.with.servers < 2 ^ 8
-  pub desk_is : desk ≡ 3 + f.with.servers + server
-  pub image_is : image ≡ image_cell server
-  pub within : desk < cell_count f.table
 
 -- What is asked.
 
@@ -64,35 +47,19 @@ pub record HasBooked (f : Floor) (kind : Kind) (See : Setting → World → ℕ 
   pub noted : (q : ℕ) → option_and_then session_in (event_at mid.seat.view.seen q) ≡ Some was.number → q < (actor_of was.actor).seen
   pub right : IsRight (site_in (actor_of now.actor).setting) now.seat.view.seen
 
--- Ends of commands.
+-- The actor is as before, and may have seen more.
+pub record IsAsBefore (f : Floor) (was now : Player) : Type 0 where
+  pub stands : Stands f now
+  pub number : now.number ≡ was.number
+  pub actor : actor_of now.actor ≡ actor_of was.actor
+  pub seen : Extends now.seat.view.seen was.seat.view.seen
 
--- by which step a command fails of which a part found no memory; none where no part of it is laid yet
-abbrev pub fails_by : (desk image : ℕ) → Work → Option BookStep
-fails_by desk image (work_is.Insert row false) = None
-fails_by desk image (work_is.Insert row true) = Some (book.FailRouted desk image)
-fails_by desk image work = Some (book.FailQuery desk)
-
--- the step is one that ends a command whose parts are on this desk
-abbrev pub EndsAtDesk : (desk image : ℕ) → BookStep → Type 0
-EndsAtDesk desk image (book.Ack d i) = (d ≡ desk) × (i ≡ image)
-EndsAtDesk desk image (book.Answer d) = d ≡ desk
-EndsAtDesk desk image (book.FailRouted d i) = (d ≡ desk) × (i ≡ image)
-EndsAtDesk desk image (book.FailQuery d) = d ≡ desk
-EndsAtDesk desk image step = ⊥
-
--- the parts on a desk are of a command, and come to a sum that can be counted
-abbrev pub CanSum : DeskValue → Type 0
-CanSum desk = IsSome desk.op × ((sum_of desk.parts).count < 2 ^ 63) × IsSum (verdict_of desk.parts)
-
--- the parts on a held desk come to this sum
-abbrev pub SumsTo : Player → ℕ → Aggregate → Type 0
-SumsTo p desk agg = Sees p desk (λ cell. verdict_of (desk_in cell).parts ≡ Some (Sum agg))
-
--- a command ends so by this step
-abbrev pub IsEndBy : Player → BookStep → End → Type 0
-IsEndBy p (book.Ack desk image) e = e ≡ end.Acked
-IsEndBy p (book.Answer desk) e = (agg : Aggregate) × (e ≡ end.Answered agg) × IsThere p.seat.view.held desk × SumsTo p desk agg
-IsEndBy p (book.FailUnrouted image) e = e ≡ end.Failed
-IsEndBy p (book.FailRouted desk image) e = e ≡ end.Failed
-IsEndBy p (book.FailQuery desk) e = e ≡ end.Failed
-IsEndBy p step e = ⊥
+-- The newest event is one of the actor, which has begun nothing else that it hadn't seen; the history that it has seen is right.
+pub record HasPushed (f : Floor) (event_of : ActorValue → ℕ → Event) (was now : Player) : Type 0 where
+  pub stands : Stands f now
+  pub number : now.number ≡ was.number
+  pub older : List Event
+  pub behind : Extends older was.seat.view.seen
+  pub now_is : now.seat.view.seen ≡ event_of (actor_of was.actor) (length older) ∷ older
+  pub only : begins_of older was.number ≡ begins_of was.seat.view.seen was.number
+  pub right : IsRight (site_in (actor_of now.actor).setting) now.seat.view.seen

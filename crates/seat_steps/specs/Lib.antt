@@ -1,12 +1,5 @@
 pub mod Floors
 pub mod Takes
 pub mod Made
-pub mod Looks
-pub mod Goings
-pub mod Rows
-pub mod Commands
-pub mod Begins
 pub mod Booked
-pub mod Heads
-pub mod Coming
-pub mod Parts
+pub mod Looks

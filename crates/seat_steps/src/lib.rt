@@ -1,23 +1,15 @@
-//! What an actor does at its seat: its parts and its commands, each step over the turns of just the cells that it needs.
+//! An actor at its seat: the turns that it takes and gives back, what it sees in the cells that it holds, and one step of
+//! any kind over them, with or without an event of the history.
 #![tactic(auto)]
 
-mod begins;
 mod booked;
-mod coming;
-mod commands;
-mod desks;
 mod floor;
-mod heads;
-mod hears;
 mod looks;
 mod made;
-mod parts;
-mod rows;
 mod takes;
 
-pub use begins::{Begun, begin_insert, begin_query, note_refused, note_unknown};
-pub use coming::{come, empty_purse, leave};
-pub use commands::{End, Next, go_on_with_command};
+pub use booked::{LEDGER, make_booked, take_first};
 pub use floor::{Floor, Player};
-pub use hears::hear;
-pub use parts::{Did, go_on_at_part};
+pub use looks::{Lead, is_leaf_at, lead_at, may_enter_at};
+pub use made::make;
+pub use takes::{give_all, take, try_take};

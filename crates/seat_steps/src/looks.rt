@@ -17,7 +17,7 @@ use volap_cell::{Actor, Cell};
 
 /// Where the table of a worker has a shard.
 #[derive(Clone, Copy)]
-pub(crate) enum Lead {
+pub enum Lead {
     Gate(u32),
     /// At its children.
     Split,
@@ -62,7 +62,7 @@ fn is_leaf_in(cell: &Cell) -> bool
 }
 
 /// Where the table in a held cell has the shard.
-pub(crate) fn lead_at(floor: &Floor, player: &mut Player, map: u32, shard: u32) -> Lead
+pub fn lead_at(floor: &Floor, player: &mut Player, map: u32, shard: u32) -> Lead
     requires seated { IsSeated floor.now player.old }
     requires held { (c : Cell) × (value_of player.old.seat.view.held map ≡ some c) }
     ensures seen { Sees player.old map (λ cell. result ≡ lead_of (where_in cell shard)) }
@@ -72,7 +72,7 @@ pub(crate) fn lead_at(floor: &Floor, player: &mut Player, map: u32, shard: u32) 
 }
 
 /// Whether rows come in at the gate in a held cell, and the actor has spares for each level of its tree.
-pub(crate) fn may_enter_at(floor: &Floor, player: &mut Player, gate: u32) -> bool
+pub fn may_enter_at(floor: &Floor, player: &mut Player, gate: u32) -> bool
     requires seated { IsSeated floor.now player.old }
     requires held { (c : Cell) × (value_of player.old.seat.view.held gate ≡ some c) }
     ensures seen { Sees player.old gate (λ cell. result ≡ may_enter cell (actor_of player.old.actor)) }
@@ -82,7 +82,7 @@ pub(crate) fn may_enter_at(floor: &Floor, player: &mut Player, gate: u32) -> boo
 }
 
 /// Whether the block in a held cell is a leaf; what isn't a block counts as one.
-pub(crate) fn is_leaf_at(floor: &Floor, player: &mut Player, block: u32) -> bool
+pub fn is_leaf_at(floor: &Floor, player: &mut Player, block: u32) -> bool
     requires seated { IsSeated floor.now player.old }
     requires held { (c : Cell) × (value_of player.old.seat.view.held block ≡ some c) }
     ensures seen { Sees player.old block (λ cell. result ≡ is_leaf (block_in cell).body) }

@@ -17,7 +17,7 @@ use volap_turns::step;
 
 /// The actor makes a step over the cells that it holds, and gives back all but the one that it then must keep. Where
 /// memory is wanting, nothing else changes.
-pub(crate) fn make<S: CellStep>(
+pub fn make<S: CellStep>(
     alloc: Global,
     floor: &Floor,
     player: &mut Player,
@@ -34,6 +34,7 @@ pub(crate) fn make<S: CellStep>(
     ensures lists { Extends player.new.seat.view.seen player.old.seat.view.seen }
     ensures made { OnOk result (HasMade floor.now.hierarchy (S.kind what) (S.sees what) (S.tells what) (S.places what) player.old player.new) }
     ensures sure { S.may_fail what ≡ false → IsOk result }
+    ensures room { S.has_room what player.old.actor → IsOk result }
     ensures same { OnErr result (player.new.number ≡ player.old.number) }
     ensures same_actor { OnErr result (actor_of player.new.actor ≡ actor_of player.old.actor) }
     ensures same_seen { OnErr result (player.new.seat.view.seen ≡ player.old.seat.view.seen) }

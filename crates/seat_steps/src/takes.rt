@@ -1,9 +1,9 @@
 //! Turns that an actor takes and gives back.
-ghost use Rattle.std.specs.Prelude.{ℕ, ◌≡◌, ◌≢◌, ◌<◌, length, Option, Some, IfSome, IfNone};
+ghost use Rattle.std.specs.Prelude.{ℕ, ◌≡◌, ◌≢◌, ◌<◌, length, Option, Some, None, IfSome, IfNone, IfErr, OnErr, OnOk};
 ghost use mathlib.Core.Option.{none, some};
 ghost use Rattle.list_words.specs.Counts.{Each};
 ghost use Rattle.seat_steps.specs.Floors.{IsSeated, Stands, at_block, kept_by};
-ghost use Rattle.seat_steps.specs.Takes.{GaveAll, Gives, Takes};
+ghost use Rattle.seat_steps.specs.Takes.{GaveAll, Gives, IsSameActor, Takes, TakesTurn, WasRefused};
 ghost use Rattle.turn_table.specs.Numbered.{value_of};
 ghost use Rattle.turn_table.specs.Seat.{IsInOrder, cell_count};
 ghost use Rattle.volap_cell.specs.Values.{actor_of};
@@ -12,10 +12,11 @@ ghost use Rattle.volap_turns.specs.Rows.{IsThere};
 
 use crate::floor::{Floor, Player};
 use std::sync::Wait;
+use turn_table::Busy;
 use volap_cell::{Actor, Errand, RowErrand, Task, Way};
 
 /// The actor waits for the turn of one more cell.
-pub(crate) fn take<R: Wait>(rt: &R, floor: &Floor, player: &mut Player, cell: u32, rank: u8)
+pub fn take<R: Wait>(rt: &R, floor: &Floor, player: &mut Player, cell: u32, rank: u8)
     requires seated { IsSeated floor.now player.old }
     requires cell { cell < cell_count floor.now.table }
     requires other { value_of player.old.seat.view.held cell ≡ none }
@@ -25,6 +26,23 @@ pub(crate) fn take<R: Wait>(rt: &R, floor: &Floor, player: &mut Player, cell: u3
     ensures took { Takes cell rank player.old player.new }
 {
     floor.table.take(rt, &mut player.seat, cell, rank);
+}
+
+/// The actor takes the turn of one more cell if it is free, and tells no rank for it. It waits for nobody.
+pub fn try_take(floor: &Floor, player: &mut Player, cell: u32) -> Result<(), Busy>
+    requires seated { IsSeated floor.now player.old }
+    requires cell { cell < cell_count floor.now.table }
+    requires other { value_of player.old.seat.view.held cell ≡ none }
+    requires room { length player.old.seat.view.held < 7 }
+    ensures seated { IsSeated floor.now player.new }
+    ensures took { OnOk result (TakesTurn cell None player.old player.new) }
+    ensures busy { IfErr result (λ b. (b.cell ≡ cell) × (b.word ≢ 0)) }
+    ensures read { IfErr result (λ b. WasRefused cell b.word player.old player.new) }
+    ensures same { OnErr result (IsSameActor player.old player.new) }
+    ensures ranks { OnErr result (player.new.seat.ranks ≡ player.old.seat.ranks) }
+    ensures seen { OnErr result (player.new.seat.view.seen ≡ player.old.seat.view.seen) }
+{
+    floor.table.try_take(&mut player.seat, cell)
 }
 
 /// The block at which the actor's row is carried, if it is.
@@ -75,7 +93,7 @@ pub(crate) fn give(floor: &Floor, player: &mut Player, cell: u32)
 }
 
 /// The actor gives back every cell but the one that it must keep.
-pub(crate) fn give_all(floor: &Floor, player: &mut Player)
+pub fn give_all(floor: &Floor, player: &mut Player)
     requires seated { IsSeated floor.now player.old }
     ensures stands { Stands floor.now player.new }
     ensures gave { GaveAll player.old player.new }

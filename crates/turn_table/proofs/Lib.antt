@@ -5,3 +5,4 @@ pub mod Order
 pub mod Seats
 pub mod Turned
 pub mod Opened
+pub mod Emptied

@@ -1,5 +1,5 @@
 -- What contracts see of a table and of a seat.
-use Rattle.std.specs.Prelude.{◌≡◌, ◌≢◌, ℕ, ◌<◌, ◌≤◌, Bool, true, cond, List, [], ◌∷◌, ◌++◌, length, take, drop, Option, Some, None}
+use Rattle.std.specs.Prelude.{◌≡◌, ◌≢◌, ℕ, ◌<◌, ◌≤◌, Bool, true, cond, List, [], ◌∷◌, ◌++◌, length, take, drop, get_or, Option, Some, None}
 use mathlib.Core.Option.{some}
 use Rattle.atomic_table.specs.{Seated.TableId, Table.Me}
 use Rattle.turn_table.specs.{Law.IsPossible, Numbered.{value_of, numbers_of, HaveOwnNumbers}, declared.view.View.View}
@@ -23,6 +23,10 @@ free_rank = 3
 -- the rank may be told for the cell after those told for held cells
 abbrev pub IsInOrder : List (ℕ × Option ℕ) → ℕ → ℕ → Type 0
 IsInOrder ranks cell rank = (k r : ℕ) → value_of ranks k ≡ some (Some r) → (r ≤ rank) × (r ≡ rank → rank ≢ free_rank → k < cell)
+
+-- the number of the cell that was told at this place
+abbrev pub told_at : List (ℕ × Option ℕ) → ℕ → ℕ
+told_at row at = (get_or row at (0, None)).0
 
 module _ {Cell : Type 0} where
   -- the slots of these cells, which are empty where the values are moved out

@@ -6,8 +6,10 @@ mod arranged;
 mod cores;
 mod counts;
 mod ends;
+mod few;
 mod held;
 mod lends;
+mod lots;
 mod moves;
 mod rule;
 mod seat;
@@ -19,6 +21,7 @@ mod waits;
 
 pub use cores::Core;
 pub use held::Held;
+pub use lots::{Lot, One, Three, Two};
 pub use rule::{Key, Place, Turns};
 pub use seat::Seat;
 pub use table::TurnTable;

@@ -13,7 +13,7 @@ use crate::table::TurnTable;
 
 impl<C: Core> TurnTable<C> {
     /// Takes the value out of the first slot, which goes behind the others.
-    fn take_front(&self, place: &mut Place<C>, number: u32) -> C::Cell
+    pub(crate) fn take_front(&self, place: &mut Place<C>, number: u32) -> C::Cell
         requires own { place.old.table_id ≡ self.now }
         requires front { (c : C.Cell) × (place.old.me.1 ≡ (number, Some c) ∷ rest place.old.me.1) }
         ensures same { (place.new.table_id ≡ place.old.table_id) × (place.new.id ≡ place.old.id) }
@@ -26,7 +26,7 @@ impl<C: Core> TurnTable<C> {
     }
 
     /// Puts a value into the first slot, which goes behind the others.
-    fn fill_front(&self, place: &mut Place<C>, number: u32, value: C::Cell)
+    pub(crate) fn fill_front(&self, place: &mut Place<C>, number: u32, value: C::Cell)
         requires own { place.old.table_id ≡ self.now }
         requires front { place.old.me.1 ≡ (number, None) ∷ rest place.old.me.1 }
         ensures same { (place.new.table_id ≡ place.old.table_id) × (place.new.id ≡ place.old.id) }

@@ -8,6 +8,7 @@ ghost use Rattle.turn_table.specs.Seat.{cell_count, IsInOrder};
 
 use crate::cores::Core;
 use crate::held::Held;
+use crate::lots::Lot;
 use crate::moves::{position, straighten, turn_by};
 use crate::rule::Place;
 use crate::seat::Seat;
@@ -117,9 +118,23 @@ impl<C: Core> TurnTable<C> {
         ensures distinct { HaveOwnNumbers result }
         ensures possible { IsPossible C.invariant C.log_at C.log C.needs seat.new.view }
     {
+        self.lift_lot::<Held<C::Cell>>(seat)
+    }
+
+    /// Moves the values of all held cells out. No word changes.
+    /// They have the form that the call names, which must fit their number.
+    pub fn lift_lot<L: Lot<C>>(&self, seat: &mut Seat<C>) -> L
+        requires own { seat.old.table_id ≡ self.now }
+        requires few { L.fits (length seat.old.view.held) }
+        requires home { seat.old.lifted ≡ false }
+        ensures seat { seat.new ≡ record seat.old { lifted = true } }
+        ensures cells { L.cells result ≡ seat.old.view.held }
+        ensures distinct { HaveOwnNumbers (L.cells result) }
+        ensures possible { IsPossible C.invariant C.log_at C.log C.needs seat.new.view }
+    {
         straighten::<C>(&mut seat.place, seat.row.len(), seat.ahead);
         seat.ahead = 0;
-        let held = self.empty_slots(&mut seat.place, seat.row.as_slice());
+        let held = L::taken_out(self, &mut seat.place, seat.row.as_slice());
         seat.lifted = true;
         held
     }
@@ -132,7 +147,18 @@ impl<C: Core> TurnTable<C> {
         ensures seat { seat.new ≡ record seat.old { lifted = false } }
         ensures possible { IsPossible C.invariant C.log_at C.log C.needs seat.new.view }
     {
-        self.fill_slots(&mut seat.place, cells);
+        self.put_lot_back::<Held<C::Cell>>(seat, cells);
+    }
+
+    /// Moves the values back as they were. No word changes.
+    pub fn put_lot_back<L: Lot<C>>(&self, seat: &mut Seat<C>, cells: L)
+        requires own { seat.old.table_id ≡ self.now }
+        requires lifted { seat.old.lifted ≡ true }
+        requires cells { L.cells cells ≡ seat.old.view.held }
+        ensures seat { seat.new ≡ record seat.old { lifted = false } }
+        ensures possible { IsPossible C.invariant C.log_at C.log C.needs seat.new.view }
+    {
+        cells.put_in(self, &mut seat.place);
         seat.lifted = false;
     }
 
@@ -149,7 +175,23 @@ impl<C: Core> TurnTable<C> {
         ensures lists { Extends seat.new.view.seen seat.old.view.seen }
         ensures possible { IsPossible C.invariant C.log_at C.log C.needs seat.new.view }
     {
-        self.fill_slots(&mut seat.place, cells);
+        self.commit_lot::<Held<C::Cell>>(seat, cells, number, actor);
+    }
+
+    /// One event of the core: the held cells have new values, and the actor `number` is `actor`. The
+    /// first cell is given back, the others stay held.
+    pub fn commit_lot<L: Lot<C>>(&self, seat: &mut Seat<C>, cells: L, number: u32, actor: &C::Actor)
+        requires own { seat.old.table_id ≡ self.now }
+        requires lifted { seat.old.lifted ≡ true }
+        requires cells { (numbers_of (L.cells cells) ≡ numbers_of seat.old.view.held) × (0 < length (L.cells cells)) }
+        requires event { (a : C.Actor) × (value_of seat.old.view.actors number ≡ some a) × C.change (sight seat.old.view) (L.cells cells) number a actor.now }
+        // What the seat's actors then must keep stays held.
+        requires left { (j : ℕ) (x : C.Actor) (n : ℕ) → value_of (replace seat.old.view.actors number actor.now) j ≡ some x → C.needs x n → (d : C.Cell) × (value_of (after_first (L.cells cells)) n ≡ some d) }
+        ensures seat { seat.new ≡ record { table_id = seat.old.table_id; lifted = false; ranks = after_first seat.old.ranks; view = after_commit C.log_at C.log seat.old.view (L.cells cells) number actor.now } }
+        ensures lists { Extends seat.new.view.seen seat.old.view.seen }
+        ensures possible { IsPossible C.invariant C.log_at C.log C.needs seat.new.view }
+    {
+        cells.put_in(self, &mut seat.place);
         let first = seat.row.remove(0);
         self.commit_as::<Brand>(&mut seat.place, first.0, number, actor);
         seat.lifted = false;

@@ -2,7 +2,7 @@
 use Rattle.std.specs.Prelude.{ℕ, ◌≡◌, List, [], ◌∷◌, length, map, Option, Some, None}
 use mathlib.Core.Option as maybe
 use mathlib.Core.Option.{some, none}
-use Rattle.core_steps.specs.Places.{numbers}
+use Rattle.core_steps.specs.{Places.{numbers, row_of}, declared.step.Places.Places}
 use Rattle.list_words.specs.Counts.{Each}
 use Rattle.turn_table.specs.Numbered.{value_of}
 use Rattle.volap_cell.specs.{State.AreDifferent, declared.cell.Cell.Cell}
@@ -11,6 +11,10 @@ use Rattle.volap_turns.specs.declared.spread.Row.{Row}
 -- the seven places of a step
 abbrev pub row_in : Row → List (Option ℕ)
 row_in r = r.first ∷ r.second ∷ r.third ∷ r.fourth ∷ r.fifth ∷ r.sixth ∷ r.seventh ∷ []
+
+-- a step's places are these seven
+abbrev pub IsRow : List (Option ℕ) → Type 0
+IsRow row = (p : Places) × (row_of p ≡ row)
 
 abbrev pub maybe_cell : maybe.Option Cell → Option Cell
 maybe_cell none = None

@@ -1,4 +1,4 @@
-use Rattle.std.proofs.Common.{◌≡◌, ℤ, Bool, subst, rules}
+use Rattle.std.proofs.Common.{ℤ, Bool, subst, rules}
 use Rattle.actor_run.specs.{Doing.{Does, HasDone, HasTold}, Sessions.EndsInsert}
 use Rattle.actor_run.proofs.{Ends.{insert-refused, insert-unknown}, Measured.measured, Unknown.unknown-coord}
 use Rattle.actor_run.proofs.calls.insert.Goals as goal

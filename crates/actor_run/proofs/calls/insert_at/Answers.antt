@@ -1,7 +1,7 @@
-use Rattle.std.proofs.Common.{◌≡◌, ℤ, sym, ap, subst, rules}
+use Rattle.std.proofs.Common.{ℤ, ap, subst, rules}
 use Rattle.actor_run.specs.Driving.{EndsSince}
 use Rattle.actor_run.proofs.{Ends.{insert-acked, insert-failed, insert-open, insert-refused, insert-unanswered}, Measured.measured, Sessions.{as-before, can-begin, refused-later}}
-use Rattle.seat_steps.specs.{Begins.HasBegunInsert, declared.commands.End.End}
+use Rattle.session_steps.specs.{Begins.HasBegunInsert, declared.commands.End.End}
 use Rattle.volap_cell.specs.Values.{ActorValue}
 use Rattle.actor_run.proofs.calls.insert_at.Goals as goal
 

@@ -1,24 +1,14 @@
-use Rattle.std.proofs.Common.{◌≡◌, ◌∙◌, Bool, Err, ap, subst}
-use Rattle.actor_run.specs.Doing.{HasDone, HasTold}
-use Rattle.actor_run.proofs.{Ends.{query-refused, query-unknown}, Unknown.unknown-filter}
+use Rattle.std.proofs.Common.{ℕ, sym, subst}
+use Rattle.actor_run.specs.{Doing.Does, Sessions.{EndsQuery, IsSession}}
+use Rattle.seat_steps.specs.declared.floor.Player.{Player}
 use Rattle.actor_run.proofs.calls.query.Goals as goal
 
+pub query_with-requires-clause-session : goal.query_with-requires-clause-session
+query_with-requires-clause-session g c _ _ = subst (λ (p : Player). (server : ℕ) × IsSession c.args.floor.now server p) (sym c.in-Ok.ensures.same) c.requires.session
+
 pub query_with-requires-clause-filter : goal.query_with-requires-clause-filter
-query_with-requires-clause-filter g c _ _ = c.in-Ok.ensures.ok.valid
+query_with-requires-clause-filter g c _ _ = c.in-Ok.ensures.named.valid
 
 pub returns-in-Ok-clause-does : goal.returns-in-Ok-clause-does
-returns-in-Ok-clause-does g c = c.query_with.ensures.does c.args.filter.now c.in-Ok.ensures.ok
-
-pub returns-then-note-clause-does : goal.returns-then-note-clause-does
-returns-then-note-clause-does g c server s =
-    let told = subst (λ (b : Bool). HasDone c.args.floor.now (HasTold b c.in-Err-Unknown.dim) server c.args.player.now c.note.new.player) c.if-note.true (c.note.ensures.does server s) in
-    query-unknown c.args.floor.now server c.args.player.now c.note.new.player c.args.filter.now c.in-Err-Unknown.dim
-    (unknown-filter _ c.filter.result c.in-Err-Unknown.dim (c.in-Err-Unknown.is ∙ ap Err c.in-Err-Unknown.field-0-is) c.filter.ensures.unknown c.filter.ensures.known) told
-
-pub returns-else-note-clause-does : goal.returns-else-note-clause-does
-returns-else-note-clause-does g c server s =
-    let refused = subst (λ (b : Bool). HasDone c.args.floor.now (HasTold b c.in-Err-Unknown.dim) server c.args.player.now c.note.new.player) c.if-note.false (c.note.ensures.does server s) in
-    query-refused c.args.floor.now server c.args.player.now c.note.new.player c.args.filter.now refused
-
-pub returns-in-Err-NoMemory-clause-does : goal.returns-in-Err-NoMemory-clause-does
-returns-in-Err-NoMemory-clause-does g c server s = query-refused c.args.floor.now server c.args.player.now c.refuse.new.player c.args.filter.now (c.refuse.ensures.does server s)
+returns-in-Ok-clause-does g c =
+    subst (λ (p : Player). Does c.args.floor.now (EndsQuery c.query_with.result c.args.filter.now) p c.query_with.new.player) c.in-Ok.ensures.same (c.query_with.ensures.does c.args.filter.now c.in-Ok.ensures.named)

@@ -1,7 +1,7 @@
-use Rattle.std.proofs.Common.{◌≡◌, sym, ap, subst}
+use Rattle.std.proofs.Common.{ap, subst}
 use Rattle.actor_run.specs.Driving.{EndsSince}
 use Rattle.actor_run.proofs.{Ends.{query-answered, query-failed, query-open, query-refused, query-unacked}, Sessions.{as-before, can-begin, refused-later}}
-use Rattle.seat_steps.specs.declared.commands.End.{End}
+use Rattle.session_steps.specs.declared.commands.End.{End}
 use Rattle.volap_cell.specs.Values.{ActorValue}
 use Rattle.actor_run.proofs.calls.query_with.Goals as goal
 

@@ -1,4 +1,4 @@
-use Rattle.std.proofs.Common.{ap, inl}
+use Rattle.std.proofs.Common.{ap}
 use Rattle.actor_run.proofs.{Ends.as-before-on, Sessions.{can-begin, nothing-to-do, refused-before, refused-noted}}
 use Rattle.volap_cell.specs.Values.{ActorValue}
 use Rattle.actor_run.proofs.calls.refuse.Goals as goal

@@ -1,4 +1,4 @@
-use Rattle.std.proofs.Common.{◌≡◌, ◌∙◌, ℕ, ◌+◌, ◌==◌, if◌then◌else◌, List, count_by, ap, subst, arith}
+use Rattle.std.proofs.Common.{◌∙◌, ℕ, ◌+◌, ◌==◌, if◌then◌else◌, List, count_by, ap, subst, arith}
 use Rattle.actor_run.specs.Passes.{AreAllIn, HasGiven, HasTaken, PassValue, PassesValue}
 use Rattle.actor_run.proofs.Missing.{none-counted}
 use Rattle.actor_run.proofs.tests.a_hall_closes_when_all_passes_are_in.Goals as goal

@@ -1,6 +1,6 @@
 use Rattle.std.proofs.Common.{◌≡◌, ℕ, ◌<◌, [], sym, subst}
 use mathlib.Core.Option.{none}
-use Rattle.seat_steps.proofs.{WithLedger.{booked-asked, booked-at, has-booked, held-below, next-cell, some-held}, Since.{as-before, map-err, map-ok, refused-unchanged, unchanged, unchanged-on}}
+use Rattle.seat_steps.proofs.{Since.{as-before, map-err, map-ok, refused-unchanged, unchanged, unchanged-on}, WithLedger.{booked-asked, booked-at, has-booked, held-below, next-cell, some-held}}
 use Rattle.seat_steps.specs.Takes.{Takes}
 use Rattle.turn_table.specs.{Numbered.value_of, Seat.{IsInOrder, cell_count}}
 use Rattle.seat_steps.proofs.booked.make_booked.Goals as goal

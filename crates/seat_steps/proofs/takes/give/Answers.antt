@@ -1,4 +1,4 @@
-use Rattle.std.proofs.Common.{◌≡◌, ◌∙◌, List, ℕ, Option, ap, sym, subst}
+use Rattle.std.proofs.Common.{◌∙◌, List, ℕ, Option, ap, sym, subst}
 use Rattle.row_ledger.specs.declared.event.Event.{Event}
 use Rattle.seat_steps.specs.Floors.{AreTold, kept_by}
 use Rattle.seat_steps.proofs.{Taken.{free-of, gave-holds}, Told.still-told}

@@ -24,7 +24,7 @@ returns g c =
     let gathers = c.gathered.ensures ∙ ap (λ (l : List (Option ℕ)). things l now) places in
     let order = c.as_slice.ensures.value ∙ c.numbered-order.ensures.numbers in
     let a = c.arranged-cells in
-    made-as was now r.ensures.went r.ensures.told r.ensures.sure r.ensures.refused c.args.cells a.result over.is
+    made-as was now r.ensures.went r.ensures.told r.ensures.sure r.ensures.room r.ensures.refused c.args.cells a.result over.is
     (now-at over c.requires.at c.requires.own now r.ensures.fill c.gathered.result gathers c.as_slice.result.now order a.result a.ensures.same)
     (a.ensures.order ∙ order)
     (each-at over c.requires.at c.requires.own now r.ensures.fill c.gathered.result gathers c.as_slice.result.now order a.result a.ensures.same)

@@ -1,16 +1,16 @@
-use Rattle.std.proofs.Common.{◌∙◌, ◌∷◌, [], Some, refl}
-use Rattle.core_steps.specs.Places.{held}
-use Rattle.volap_turns.proofs.Ordered.{fill-two, made-in-order, things-two}
+use Rattle.std.proofs.Common.{◌∙◌, ◌∷◌, [], sym, refl}
+use Rattle.volap_turns.proofs.Ordered.{as-many, made-of, over-held, two-named}
 use Rattle.volap_turns.proofs.over.over_two.Goals as goal
 
+pub over_two_in_order-requires-clause-named : goal.over_two_in_order-requires-clause-named
+over_two_in_order-requires-clause-named g c =
+    let in_order = c.are_two_in_order.ensures c.if-are_two_in_order.true in
+    two-named (g.S.CellStep.places c.args.what) c.args.cells.0.0 in_order.0 (c.args.cells.0 ∷ c.args.cells.1 ∷ []) c.args.cells.0 c.args.cells.1 (sym c.places.ensures ∙ in_order.1) c.requires.at refl refl
+
+pub two-requires : goal.two-requires
+two-requires g c =
+    let over = over-held c.of_two.ensures c.over_many-made.ensures in
+    as-many c.over_many-made.result.1 (c.args.cells.0 ∷ c.args.cells.1 ∷ []) over.numbers
+
 pub returns : goal.returns
-returns g c =
-    let r = c.run-made in
-    let others = c.none-others in
-    let row = g.S.CellStep.places c.args.what in
-    let one = c.args.one in
-    let two = c.args.two in
-    made-in-order (held (Some one.1) (Some two.1) others.result) (held r.new.first r.new.second r.new.others) r.ensures.went r.ensures.told r.ensures.sure r.ensures.refused (one ∷ two ∷ []) c.of_two.result c.requires.at.apart
-    (fill-two row one.0 two.0 one.1 two.1 others.result c.requires.named others.ensures) r.ensures.fill
-    (things-two row one.0 two.0 (Some one.1) (Some two.1) others.result one.1 two.1 c.requires.named refl refl)
-    (c.of_two.ensures ∙ things-two row one.0 two.0 r.new.first r.new.second r.new.others c.in-Some-Some.a c.in-Some-Some.b c.requires.named c.in-Some-Some.is-0 c.in-Some-Some.is-1)
+returns g c = made-of c.two.ensures (over-held c.of_two.ensures c.over_many-made.ensures)

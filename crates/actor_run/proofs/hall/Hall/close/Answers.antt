@@ -1,10 +1,9 @@
-use Rattle.std.proofs.Common.{◌≡◌, ◌∙◌, List, Option, sym, ap, subst}
-use Rattle.actor_run.specs.Passes.{PassesValue}
-use Rattle.actor_run.proofs.Closing.{are-actors, has-all}
-use Rattle.row_ledger.specs.declared.event.Event.{Event}
+use Rattle.std.proofs.Common.{◌∙◌, List, Option, sym, ap, subst}
+use Rattle.actor_run.specs.{Halls.HasClosed, Passes.{IsPassesOf, PassesValue, passes_of}}
+use Rattle.actor_run.proofs.Closing.{are-actors, has-all, has-closed}
 use Rattle.seat_steps.specs.declared.floor.Floor.{Floor}
 use Rattle.volap_cell.specs.declared.actor.Actor.{Actor}
-use Rattle.volap_turns.specs.Wholes.{AreActorsOf, HasHistory, IsWhole}
+use Rattle.volap_turns.specs.Wholes.{AreActorsOf}
 use Rattle.actor_run.proofs.hall.Hall.close.Goals as goal
 
 pub close-requires-clause-all : goal.close-requires-clause-all
@@ -17,9 +16,12 @@ close-requires-clause-actors c =
     (are-actors c.passes.invariant.0 (ap (λ (p : PassesValue). p.out) c.passes.view_is ∙ c.requires.all) c.self.inside.floor.hierarchy about)
 
 pub returns : goal.returns
-returns c = record {
-  closed = record {
-    whole = subst (λ (f : Floor). IsWhole f.hierarchy c.close.result.cells.items c.close.result.actors.items) c.self.view_is c.close.ensures.whole;
-    history = subst (λ (p : PassesValue). HasHistory c.close.result.cells.items c.close.result.actors.items p.seen) c.passes.view_is c.close.ensures.history;
-  };
-}
+returns c =
+    let f = c.self.inside.floor in
+    let in_all = ap (λ (p : PassesValue). p.out) c.passes.view_is ∙ c.requires.all in
+    let own : IsPassesOf f (passes_of c.passes.inside.seat c.passes.inside.own c.passes.inside.actors.items) = subst (λ (x : Floor × PassesValue). IsPassesOf x.0 x.1) (λ i. (sym c.self.view_is i, sym c.passes.view_is i)) c.requires.own in
+    let here = ap (λ v. v.items) c.close.ensures.actors ∙ c.push_reserved.ensures.items in
+    record {
+      closed = subst (λ (x : Floor × PassesValue). HasClosed x.0 x.1 c.close.result) (λ i. (c.self.view_is i, c.passes.view_is i))
+          (has-closed c.passes.invariant.0 in_all f c.close.result own here c.close.ensures.whole c.close.ensures.history);
+    }

@@ -1,4 +1,4 @@
-use Rattle.std.proofs.Common.{◌≡◌, arith, subst}
+use Rattle.std.proofs.Common.{arith, subst}
 use Rattle.actor_run.specs.Passes.{HasGiven, PassValue, PassesValue, passes_of}
 use Rattle.actor_run.proofs.Given.{are-given, bare, below, has-given, rests}
 use Rattle.actor_run.proofs.passes.Passes.give.Goals as goal

@@ -1,4 +1,4 @@
-use Rattle.std.proofs.Common.{◌≡◌, ◌∙◌, ℕ, IfNone, None, Some, Option, sym, ap, subst, arith}
+use Rattle.std.proofs.Common.{ℕ, IfNone, None, Some, Option, subst, arith}
 use Rattle.actor_run.specs.Passes.{HasTaken, IsOut, PassesValue, pass_of, passes_of}
 use Rattle.actor_run.proofs.Taken.{are-left, has-taken, is-out, is-pass, splits}
 use Rattle.actor_run.proofs.passes.Passes.take.Goals as goal

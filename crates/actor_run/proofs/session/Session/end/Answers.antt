@@ -1,5 +1,5 @@
 use Rattle.std.proofs.Common.{sym, subst}
-use Rattle.actor_run.specs.{Passes.{IsPassOf, pass_of}, Sessions.{IsSession, SessionValue, session_for}}
+use Rattle.actor_run.specs.{Passes.{IsPassOf, pass_of}, Sessions.{BecomesPass, IsSession, SessionValue, session_of}}
 use Rattle.actor_run.proofs.PassAndSession.{session-made, session-nothing, session-own, session-pass, still-counted, still-nothing}
 use Rattle.seat_steps.specs.Floors.{Stands}
 use Rattle.seat_steps.specs.declared.floor.Floor.{Floor}
@@ -36,7 +36,8 @@ returns g c =
     let mid = c.empty_purse.new.player in
     let now = c.leave.new.player in
     let own = session-own c.hall.inside.floor i.server i.player session mid c.empty_purse.ensures.emptied now c.leave.ensures.left in
+    let made = session-made c.hall.inside.floor i.server i.player session mid c.empty_purse.ensures.emptied now c.leave.ensures.left in
     record {
       of = subst (λ (s : SessionValue). IsPassOf s.floor (pass_of now)) c.self.view_is (subst (λ (f : Floor). IsPassOf f (pass_of now)) c.hall.view_is own);
-      made = subst (session_for (pass_of now)) c.self.view_is (session-made c.hall.inside.floor i.server i.player session mid c.empty_purse.ensures.emptied now c.leave.ensures.left);
+      made = subst (λ (s : SessionValue). BecomesPass s (pass_of now)) c.self.view_is (subst (λ (f : Floor). BecomesPass (session_of f i.server i.player) (pass_of now)) c.hall.view_is made);
     }

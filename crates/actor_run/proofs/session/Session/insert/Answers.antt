@@ -1,7 +1,7 @@
-use Rattle.std.proofs.Common.{◌≡◌, ◌∙◌, ℕ, ℤ, length, sym, ap, subst, rules}
+use Rattle.std.proofs.Common.{◌∙◌, ℕ, ℤ, length, sym, ap, subst, rules}
 use Rattle.actor_run.specs.{Doing.Does, Sessions.{DoesInsert, EndsInsert, IsSession, SessionValue, session_of}}
 use Rattle.actor_run.proofs.Measured.{measured}
-use Rattle.seat_steps.proofs.Servers.{server-below}
+use Rattle.session_steps.proofs.Servers.{server-below}
 use Rattle.seat_steps.specs.declared.floor.Floor.{Floor}
 use Rattle.actor_run.proofs.session.Session.insert.Goals as goal
 

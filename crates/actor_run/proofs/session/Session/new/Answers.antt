@@ -1,5 +1,5 @@
 use Rattle.std.proofs.Common.{sym, subst}
-use Rattle.actor_run.specs.{Passes.{IsPassOf, PassValue, pass_of}, Sessions.{IsPassFor, IsSession, IsSessionRole, session_of}}
+use Rattle.actor_run.specs.{Passes.{IsPassOf, PassValue}, Sessions.{IsPassFor, IsSession, IsSessionRole, session_of}}
 use Rattle.actor_run.proofs.PassAndSession.{come-heard, come-nothing, pass-for, pass-nothing, pass-session, pass-stands}
 use Rattle.seat_steps.specs.declared.floor.Floor.{Floor}
 use Rattle.actor_run.proofs.session.Session.new.Goals as goal

@@ -1,6 +1,6 @@
-use Rattle.std.proofs.Common.{◌≡◌, ◌∙◌, ℕ, ◌<◌, length, sym, ap, subst}
+use Rattle.std.proofs.Common.{◌∙◌, ℕ, length, sym, ap, subst}
 use Rattle.actor_run.specs.{Doing.Does, Sessions.{DoesQuery, EndsQuery, IsSession, SessionValue, session_of}}
-use Rattle.seat_steps.proofs.Servers.{server-below}
+use Rattle.session_steps.proofs.Servers.{server-below}
 use Rattle.seat_steps.specs.declared.floor.Floor.{Floor}
 use Rattle.actor_run.proofs.session.Session.query.Goals as goal
 

@@ -1,0 +1,95 @@
+//! Two sessions at work at the same time.
+ghost use Rattle.std.specs.Prelude.{◌≡◌, ◌≤◌, All, IfOk, length};
+ghost use Rattle.dim_hierarchy.specs.Names.{IsNamePick};
+
+use crate::{Places, Told, count_on_two_threads};
+use actor_run::Asked;
+use dim_hierarchy::{Hierarchy, Name, NameFilter, NamePick, RowNames};
+use row_ledger::Event;
+use std::alloc::{AllocError, Global};
+use std::test::Fail;
+use volap_cell::{Cell, State};
+
+/// A dimension with two towns.
+fn towns(alloc: Global) -> Result<Hierarchy, Fail>
+    ensures { IfOk result (λ h. length h ≡ 1) }
+{
+    let mut h = Hierarchy::new(alloc);
+    let Ok(dim) = h.add_dim(&Name::from_bytes(alloc, b"town")?, 1) else {
+        return Err("there is room for a dimension".into());
+    };
+    let Ok(_) = h.add_concept(dim, &Name::from_bytes(alloc, b"berlin")?, None) else {
+        return Err("there is room for a town".into());
+    };
+    let Ok(_) = h.add_concept(dim, &Name::from_bytes(alloc, b"munich")?, None) else {
+        return Err("there is room for a town".into());
+    };
+    if h.dims() != 1 {
+        return Err("there is one dimension".into());
+    }
+    Ok(h)
+}
+
+/// The row of a town.
+fn row(alloc: Global, town: &[u8]) -> Result<RowNames, Fail>
+    requires { length town.now ≤ 255 }
+    ensures { IfOk result (λ names. length names ≡ 1) }
+{
+    let mut names = RowNames::new(alloc);
+    names.push(town)?;
+    Ok(names)
+}
+
+/// The question for all rows.
+fn all_rows(alloc: Global) -> Result<NameFilter, AllocError>
+    ensures { IfOk result (λ picks. (length picks ≡ 1) × All IsNamePick picks) }
+{
+    let mut all = NameFilter::new(alloc);
+    all.push(NamePick::All)?;
+    Ok(all)
+}
+
+/// How many inserts were acknowledged, by the history of a state.
+fn acked_in(state: &State) -> u64 {
+    let Some(Some(Cell::Ledger(ledger))) = state.cells.first() else {
+        return 0;
+    };
+    let mut count = 0u64;
+    for event in ledger.events() {
+        if let Event::Acked { .. } = event {
+            count = count.saturating_add(1);
+        }
+    }
+    count
+}
+
+/// How many rows were counted.
+fn counted(told: &Told) -> Option<u64> {
+    match told.answer {
+        Asked::Answer { agg, .. } => Some(agg.count()),
+        _ => None,
+    }
+}
+
+#[test]
+fn each_session_counts_its_own_rows_at_least(rt: HostRuntime) -> Result<(), Fail> {
+    let alloc = rt.alloc();
+    let berlin = row(alloc, b"berlin")?;
+    let munich = row(alloc, b"munich")?;
+    let all = all_rows(alloc)?;
+    let places = Places {
+        one: &berlin,
+        other: &munich,
+        asked: &all,
+    };
+    let (state, one, other) = count_on_two_threads(&rt, alloc, towns(alloc)?, 2000, &places, 100)?;
+    for told in [one, other] {
+        assert_eq!(rt; told.acked, 100);
+        let Some(count) = counted(&told) else {
+            panic!(rt; "there is an answer");
+        };
+        assert!(rt; 100 <= count && count <= 200);
+    }
+    assert_eq!(rt; acked_in(&state), 200);
+    Ok(())
+}

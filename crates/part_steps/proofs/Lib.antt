@@ -1,0 +1,13 @@
+pub mod BlocksTaken
+pub mod Entered
+pub mod FullHeads
+pub mod Keeping
+pub mod PartsLed
+pub mod PartsMade
+pub mod PartsSure
+pub mod RowsDown
+pub mod RowsIn
+pub mod RowsMade
+pub mod Takings
+pub mod Uncarried
+pub mod Unvisited

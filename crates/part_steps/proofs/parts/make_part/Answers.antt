@@ -1,0 +1,32 @@
+use Rattle.std.proofs.Common.{◌∙◌, arith, sym, subst}
+use Rattle.part_steps.specs.Parts.{CanEndPart}
+use Rattle.part_steps.proofs.PartsMade.{kept-part, part-asked, part-few, went-behind, went-part}
+use Rattle.part_steps.proofs.parts.make_part.Goals as goal
+use Rattle.volap_turns.proofs.Turned.{when-err, when-ok}
+
+pub make-requires-clause-some : goal.make-requires-clause-some
+make-requires-clause-some g c = omega (arith, c.requires.at.count, (part-few c.args.step).0)
+
+pub make-requires-clause-few : goal.make-requires-clause-few
+make-requires-clause-few g c = omega (arith, c.requires.at.count, (part-few c.args.step).1)
+
+pub make-requires-clause-asked : goal.make-requires-clause-asked
+make-requires-clause-asked g c = part-asked c.args.floor.now c.args.player.now c.requires.seated c.args.step c.requires.ready c.requires.at
+
+pub make-requires-clause-kept : goal.make-requires-clause-kept
+make-requires-clause-kept g c = kept-part c.args.floor.now c.args.player.now c.requires.seated c.args.step c.requires.ends
+
+pub returns-then-is_ok : goal.returns-then-is_ok
+returns-then-is_ok g c =
+    let made = when-ok c.make.result c.make.ensures.made (sym c.is_ok.ensures.value ∙ c.if-is_ok.true) in
+    record { went = went-part c.args.floor.now c.args.player.now c.requires.seated c.args.step c.make.new.player c.requires.ends c.make.ensures.stands c.make.ensures.lists made }
+
+pub end_part-requires-clause-ends : goal.end_part-requires-clause-ends
+end_part-requires-clause-ends g c = subst CanEndPart (sym (when-err c.make.result c.make.ensures.same_actor (sym c.is_ok.ensures.value ∙ c.if-is_ok.false))) c.requires.ends
+
+pub returns : goal.returns
+returns g c =
+    let err = sym c.is_ok.ensures.value ∙ c.if-is_ok.false in
+    record {
+      went = went-behind c.args.floor.now c.args.player.now c.make.new.player c.end_part.new.player (when-err c.make.result c.make.ensures.same err) (when-err c.make.result c.make.ensures.same_actor err) c.make.ensures.lists c.end_part.ensures.went;
+    }

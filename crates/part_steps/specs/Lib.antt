@@ -1,0 +1,5 @@
+pub mod Goings
+pub mod Heads
+pub mod Parts
+pub mod Reads
+pub mod Rows

@@ -1,0 +1,8 @@
+//! How an actor goes on with a part at its seat: each step over the turns of just the cells that it needs.
+#![tactic(auto)]
+
+mod heads;
+mod parts;
+mod rows;
+
+pub use parts::{Did, go_on_at_part};

@@ -1,9 +1,0 @@
-use Rattle.std.proofs.Common.{[], refl}
-use Rattle.core_due.specs.Look.{setting_by}
-use Rattle.seat_steps.proofs.Servers.{books-are}
-use Rattle.seat_steps.proofs.booked.books_of.Goals as goal
-
-pub returns : goal.returns
-returns c =
-    let f = c.args.floor.now in
-    books-are f c.args.player.now c.requires.seated c.in-Session.server c.in-Session.is c.tell_servers.ensures _ _ (c.desk_place.ensures (setting_by [] f.with) refl) c.image_place.ensures

@@ -1,5 +1,0 @@
-use Rattle.seat_steps.proofs.Servers.{places-are}
-use Rattle.seat_steps.proofs.booked.take_image_alone.Goals as goal
-
-pub take_first-requires-clause-cell : goal.take_first-requires-clause-cell
-take_first-requires-clause-cell g c = (places-are c.requires.books).0

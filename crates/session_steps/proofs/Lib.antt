@@ -1,0 +1,14 @@
+pub mod Beginning
+pub mod CommandsMade
+pub mod Counted
+pub mod DuesOpen
+pub mod Emptied
+pub mod Ending
+pub mod Grown
+pub mod Heard
+pub mod OneHeld
+pub mod QueryParts
+pub mod Servers
+pub mod Since
+pub mod Sums
+pub mod Visiting

@@ -1,0 +1,5 @@
+pub mod Begins
+pub mod Books
+pub mod Coming
+pub mod Commands
+pub mod Visits
