@@ -5,7 +5,7 @@ use mathlib.Core.Option.{none, some}
 use lib.ListN.{get_elem?}
 use Rattle.atomic_table.specs.Seated.{TableId}
 use Rattle.atomic_table.proofs.Lists.{at_last, at_longer}
-use Rattle.actor_run.specs.{Halls.{HasOpened, IsHallFor, hall_setting}, Opened.IsOpenedTable, Passes.{ArePasses, IsAt, IsIn, passes_of}}
+use Rattle.actor_run.specs.{Halls.{HasOpened, IsHallFor, hall_setting, own_role}, Opened.IsOpenedTable, Passes.{ArePasses, IsAt, IsIn, passes_of}}
 use Rattle.actor_run.proofs.{Missing.all-in, Seated.{right-whole, setting-of}}
 use Rattle.dim_hierarchy.specs.Dimension.{Dimension}
 use Rattle.row_ledger.specs.{Kept.IsOpeningHistory, Right.{EachEvent, IsFirstPull, IsRight}, Site.Site, declared.event.Event.Event, declared.event.Event.TheVariants.Synced, declared.settings.Use.Use}
@@ -13,7 +13,7 @@ use Rattle.script_run.specs.Places.{begins_in, begins_of}
 use Rattle.script_run.proofs.PlaceFacts.{begins_of-other}
 use Rattle.turn_table.specs.{Numbered.value_of, Seat.{SeatValue, cell_count}, Views.{HasAll, first_view, seen_of}}
 use Rattle.turn_table.proofs.{Numbered.{below_length, some_or_none, there}, Opened.{numbered_find, numbered_own}}
-use Rattle.volap_cell.specs.{Cells.{CellValue, ledger_in}, Filling.IsOpened, Opening.IsFresh, Setting.{Setting, actor_count, ledger_cell, site_in}, Values.{ActorValue, actor_of}, declared.actor.Actor.Actor, declared.cell.Cell.Cell, declared.role.Role.Role, declared.role.Role.TheVariants.Admin}
+use Rattle.volap_cell.specs.{Cells.{CellValue, ledger_in}, Filling.IsOpened, Opening.IsFresh, Setting.{Setting, actor_count, ledger_cell, site_in}, Values.{ActorValue, actor_of}, declared.actor.Actor.Actor, declared.cell.Cell.Cell, declared.role.Role.Role}
 use Rattle.volap_turns.specs.{Rule.{all_there, history_of}, Wholes.CanBe, Worlds.{IsWorld, at-place, is-world, long}}
 
 abbrev S : Type 0
@@ -118,7 +118,7 @@ module _ {h : List Dimension} {with : Use} {roles : List Role} {t : TableId} {se
   ending = subst (λ (l : List Actor). IsOpenedTable (hall_setting h with roles) t seat l) last table
 
   few : length xs + 1 < 2 ^ 16
-  few = (let count = ending.opened.count in let l = fits.few in omega (arith, count, long (xs ++ own ∷ []), length-append xs (own ∷ []), length-append roles (Admin ∷ [])))
+  few = (let count = ending.opened.count in let l = fits.few in omega (arith, count, long (xs ++ own ∷ []), length-append xs (own ∷ []), length-append roles (own_role roles ∷ [])))
 
   pub are-opened : ArePasses seat own places
   are-opened = subst (λ (l : List (Option Actor)). ArePasses seat own l) (sym placed) (are-passes xs own ending few)

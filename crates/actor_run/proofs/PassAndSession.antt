@@ -41,8 +41,8 @@ module _ (f : Floor) (p : Player) (pass : IsPass p) where
 
   -- it has nothing to do when it has come, and has come still when it has seen more
   module _ (mid : Player) (come : HasCome f p mid) where
-    pub come-nothing : IsSessionRole (pass_of p).role → IsAtNothing mid
-    come-nothing role = record { server = role.0; role = ap (λ (a : ActorValue). a.role) come.actor ∙ role.1; free = subst IsFree (sym come.actor) (record { command = pass.idle.command; errand = pass.idle.errand; job = pass.idle.job }) }
+    pub come-free : IsFree (actor_of mid.actor)
+    come-free = subst IsFree (sym come.actor) (record { command = pass.idle.command; errand = pass.idle.errand; job = pass.idle.job })
 
     pub come-heard : (now : Player) → IsAsBefore f mid now → HasCome f p now
     come-heard now heard = record {
@@ -81,9 +81,6 @@ module _ (f : Floor) (p : Player) (pass : IsPass p) where
 -- A session.
 
 module _ (f : Floor) (server : ℕ) (p : Player) (session : IsSession f server p) where
-  pub session-nothing : IsAtNothing p
-  session-nothing = record { server = server; role = session.role; free = session.free }
-
   module _ (mid : Player) (emptied : HasEmptied f p mid) where
     pub still-nothing : IsAtNothing mid
     still-nothing = record { server = server; role = ap (λ (a : ActorValue). a.role) emptied.actor ∙ session.role; free = subst IsFree (sym emptied.actor) (record { command = session.free.command; errand = session.free.errand; job = session.free.job }) }

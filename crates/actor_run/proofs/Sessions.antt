@@ -7,7 +7,7 @@ use Rattle.row_ledger.specs.{Past.session_in, Right.IsRight, Site.{Site, site_of
 use Rattle.row_ledger.specs.declared.event.Event.TheVariants.{Refused, Unknown}
 use Rattle.script_run.specs.Places.{begins_of}
 use Rattle.seat_steps.specs.{Booked.{HasPushed, IsAsBefore}, Floors.{Stands}, declared.floor.{Floor.Floor, Player.Player}}
-use Rattle.session_steps.specs.{Begins.{CanBegin, HasNoted}, Coming.IsAtNothing, declared.commands.End.End}
+use Rattle.session_steps.specs.{Begins.{CanBegin, HasNoted}, declared.commands.End.End}
 use Rattle.session_steps.proofs.Heard.{begun-nothing, numbered, right-seen}
 use Rattle.seat_steps.proofs.Since.{extends-on}
 use Rattle.turn_table.specs.Numbered.{Extends}
@@ -81,8 +81,8 @@ module _ (f : Floor) (server : ℕ) (was : Player) (s : IsSession f server was) 
       done now before.stands before.number (subst IsBut (sym before.actor) refl) (omega arith) before.seen BeganNothing
       (subst (λ (n : ℕ). begins_of now.seat.view.seen n ≡ begins_of was.seat.view.seen n) before.number (begun-nothing f now before.stands.seated was.seat.view.seen before.seen noted))
 
-  pub nothing-to-do : (now : Player) → IsAsBefore f was now → IsAtNothing now
-  nothing-to-do now before = record { server = server; role = ap (λ (x : ActorValue). x.role) before.actor ∙ s.role; free = subst IsFree (sym before.actor) s.free }
+  pub still-free : (now : Player) → IsAsBefore f was now → IsFree (actor_of now.actor)
+  still-free now before = subst IsFree (sym before.actor) s.free
 
   -- An event of its own is pushed, by which a command begins.
   module _ (event_of : ActorValue → ℕ → Event) (mid : Player) (pushed : HasPushed f event_of was mid) (of : ℕ) (position : of ≡ length pushed.older) (e : Event) (is : event_of a (length pushed.older) ≡ e)

@@ -1,27 +1,30 @@
 -- How a hall opens and closes.
-use Rattle.std.specs.Prelude.{ℕ, ◌≡◌, ◌+◌, ◌<◌, ◌≤◌, List, [], ◌∷◌, ◌++◌, All, length}
+use Rattle.std.specs.{List.list_any, Prelude.{ℕ, ◌≡◌, ◌+◌, ◌<◌, ◌≤◌, Bool, true, false, if◌then◌else◌, List, [], ◌∷◌, ◌++◌, length}}
 use Rattle.actor_run.specs.Passes.{AreAllIn, IsPassesOf, PassesValue}
 use Rattle.dim_hierarchy.specs.Dimension.{Dimension}
 use Rattle.row_ledger.specs.{Kept.IsOpeningHistory, Right.IsRight, Site.site_of, declared.settings.Use.Use}
 use Rattle.script_run.specs.Places.{begins_of}
 use Rattle.seat_steps.specs.declared.floor.Floor.{Floor}
-use Rattle.volap_cell.specs.{Filling.setting_for, Numbering.IsSetting, Setting.{Setting, site_in}, declared.role.Role.{Role}, declared.role.Role.TheVariants.{Admin, Session}, declared.state.State.State}
+use Rattle.volap_cell.specs.{Filling.setting_for, Numbering.IsSetting, Setting.{Setting, site_in}, declared.role.Role.{Role}, declared.role.Role.TheVariants.{Admin, Puller}, declared.state.State.State}
 use Rattle.volap_turns.specs.Wholes.{HasHistory, IsWhole}
+
+abbrev pub is_admin : Role → Bool
+is_admin Admin = true
+is_admin role = false
+
+-- the hall's own actor is the administrator where none of the roles is that
+abbrev pub own_role : List Role → Role
+own_role roles = if list_any is_admin roles then Puller else Admin
 
 -- what a hall with these roles is about; its own actor stands behind them
 abbrev pub hall_setting : List Dimension → Use → List Role → Setting
-hall_setting h with roles = setting_for h with (roles ++ Admin ∷ [])
+hall_setting h with roles = setting_for h with (roles ++ own_role roles ∷ [])
 
--- a role is a session's
-abbrev pub IsSession : Role → Type 0
-IsSession role = (server : ℕ) × (role ≡ Session server)
-
--- The settings are in range, there is a dimension and one worker, and each role is that of a session of a server that is there.
+-- The settings are in range, there is a dimension, and each role names a server or a worker that is there, if it names one; one
+-- administrator is among them at most.
 pub record IsHallFor (h : List Dimension) (with : Use) (roles : List Role) : Type 0 where
   pub setting : IsSetting (hall_setting h with roles)
   pub dims : 0 < length h
-  pub one_worker : with.workers ≡ 1
-  pub sessions : All IsSession roles
   pub few : length roles ≤ 256
 
 -- All passes are in, and have seen the opening: one pull of each server. No session has begun a command there.

@@ -1,16 +1,16 @@
-//! Waiting for a server's desk, asleep.
+//! Waiting for a server's desk, or for parts, asleep.
 ghost use Rattle.std.specs.Prelude.{◌≡◌, IfOk, vec_len};
 
 use std::alloc::{AllocError, Global};
 use std::sync::atomic::{AtomicU64, Ordering};
 use std::sync::{Condvar, Mutex, Wait};
 
-/// Who waits for a server's desk sleeps until its bell is rung, and whoever empties the desk rings it. No clause tells of it.
-// No ring is missed. Who waits read the count of rings before it looked at the desk, and counts itself among those who wait before
+/// Who waits sleeps until the bell is rung. No clause tells of it.
+// No ring is missed. Who waits read the count of rings before it looked at a desk, and counts itself among those who wait before
 // it compares the count again, under the lock. Who rings adds to the count first and then looks whether anybody waits. All
 // atomic steps have one order: so either the ringer sees the waiter, and tells it under the lock, or the waiter sees the ring.
 #[derive(Drop)]
-pub(crate) struct Bell {
+pub struct Bell {
     rings: AtomicU64,
     waiting: AtomicU64,
     lock: Mutex<()>,
@@ -28,6 +28,13 @@ pub(crate) fn bells(alloc: Global, count: u8) -> Result<Vec<Bell>, AllocError>
     Ok(bells)
 }
 
+/// Rings all these bells.
+pub(crate) fn wake<R: Wait>(rt: &R, bells: &[Bell]) {
+    for bell in bells {
+        bell.ring(rt);
+    }
+}
+
 impl Bell {
     fn new() -> Bell {
         Bell {
@@ -39,12 +46,12 @@ impl Bell {
     }
 
     /// How often it was rung, to be read before a look at the desk.
-    pub(crate) fn rings(&self) -> u64 {
+    pub fn rings(&self) -> u64 {
         self.rings.load(Ordering::SeqCst)
     }
 
     /// Wakes all who wait.
-    pub(crate) fn ring<R: Wait>(&self, rt: &R) {
+    pub fn ring<R: Wait>(&self, rt: &R) {
         self.rings.fetch_add(1, Ordering::SeqCst);
         if self.waiting.load(Ordering::SeqCst) != 0 {
             let _held = self.lock.lock(rt);
@@ -53,7 +60,7 @@ impl Bell {
     }
 
     /// Sleeps until it was rung more often than this.
-    pub(crate) fn wait_past<R: Wait>(&self, rt: &R, rings: u64) {
+    pub fn wait_past<R: Wait>(&self, rt: &R, rings: u64) {
         self.waiting.fetch_add(1, Ordering::SeqCst);
         let woken = self
             .rung

@@ -11,7 +11,7 @@ ghost use Rattle.seat_steps.specs.Booked.{IsAsBefore};
 ghost use Rattle.session_steps.specs.Begins.{CanBegin, HasAsked};
 ghost use Rattle.seat_steps.specs.Floors.{Stands};
 
-use crate::bell::Bell;
+use crate::bell::{Bell, wake};
 use crate::driving::drive;
 use crate::session::{Asked, Inserted};
 use dim_hierarchy::{Coord, Filter, FilterFault, Measures, NameFilter, RowNames};
@@ -86,6 +86,7 @@ pub(crate) fn query<R: Wait + Sync, M: Meet>(
     alloc: Global,
     floor: &Floor,
     bell: &Bell,
+    hands: &[Bell],
     player: &mut Player,
     seen: &mut u64,
     filter: &NameFilter,
@@ -99,7 +100,7 @@ pub(crate) fn query<R: Wait + Sync, M: Meet>(
     ensures seen { seen.new ≡ length player.new.seat.view.seen }
 {
     match filter_for(rt, alloc, floor, player, seen, filter) {
-        Ok(picks) => query_with(rt, alloc, floor, bell, player, seen, picks, meet),
+        Ok(picks) => query_with(rt, alloc, floor, bell, hands, player, seen, picks, meet),
         Err(answer) => answer,
     }
 }
@@ -110,6 +111,7 @@ fn query_with<R: Wait + Sync, M: Meet>(
     alloc: Global,
     floor: &Floor,
     bell: &Bell,
+    hands: &[Bell],
     player: &mut Player,
     seen: &mut u64,
     filter: Filter,
@@ -121,7 +123,7 @@ fn query_with<R: Wait + Sync, M: Meet>(
     ensures does { (names : List NamePick) → IsFilterNamed floor.now.hierarchy names filter → Does floor.now (EndsQuery result names) player.old player.new }
     ensures seen { seen.new ≡ length player.new.seat.view.seen }
 {
-    let Some(of) = ask(rt, alloc, floor, bell, player, filter) else {
+    let Some(of) = ask(rt, alloc, floor, bell, hands, player, filter) else {
         refuse(rt, alloc, floor, player, seen);
         return Asked::NoMemory;
     };
@@ -176,6 +178,7 @@ pub(crate) fn ask<R: Wait>(
     alloc: Global,
     floor: &Floor,
     bell: &Bell,
+    hands: &[Bell],
     player: &mut Player,
     filter: Filter,
 ) -> Option<u64>
@@ -190,7 +193,10 @@ pub(crate) fn ask<R: Wait>(
     for _ in rt.forever() {
         let rings = bell.rings();
         match begin_query(rt, alloc, floor, player, asked) {
-            Begun::At(of) => return Some(of),
+            Begun::At(of) => {
+                wake(rt, hands);
+                return Some(of);
+            }
             Begun::Waits(back) => asked = back,
             Begun::NoMemory => return None,
         }

@@ -33,6 +33,7 @@ pub(crate) fn begin<R: Wait>(
     alloc: Global,
     floor: &Floor,
     bell: &Bell,
+    hands: &[Bell],
     player: &mut Player,
     seen: &mut u64,
     names: &NameFilter,
@@ -47,7 +48,7 @@ pub(crate) fn begin<R: Wait>(
     ensures seen { OnErr result (seen.new ≡ length player.new.seat.view.seen) }
 {
     match filter_for(rt, alloc, floor, player, seen, names) {
-        Ok(filter) => begin_with(rt, alloc, floor, bell, player, seen, filter),
+        Ok(filter) => begin_with(rt, alloc, floor, bell, hands, player, seen, filter),
         Err(answer) => Err(answer),
     }
 }
@@ -58,6 +59,7 @@ fn begin_with<R: Wait>(
     alloc: Global,
     floor: &Floor,
     bell: &Bell,
+    hands: &[Bell],
     player: &mut Player,
     seen: &mut u64,
     filter: Filter,
@@ -71,7 +73,7 @@ fn begin_with<R: Wait>(
     ensures seen { OnErr result (seen.new ≡ length player.new.seat.view.seen) }
 {
     let copy = Snapshot::of(&filter);
-    let Some(of) = ask(rt, alloc, floor, bell, player, filter) else {
+    let Some(of) = ask(rt, alloc, floor, bell, hands, player, filter) else {
         refuse(rt, alloc, floor, player, seen);
         return Err(Asked::NoMemory);
     };

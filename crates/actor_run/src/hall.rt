@@ -1,6 +1,7 @@
 //! A hall: the cells of a core under turns.
+ghost use Rattle.std.specs.List.{list_any};
 ghost use Rattle.std.specs.Prelude.{◌≡◌, ◌<◌, IfOk, vec_len, vec_capacity};
-ghost use Rattle.actor_run.specs.Halls.{HasClosed, HasOpened, IsHallFor, hall_setting};
+ghost use Rattle.actor_run.specs.Halls.{HasClosed, HasOpened, IsHallFor, hall_setting, is_admin, own_role};
 ghost use Rattle.actor_run.specs.Opened.{IsOpenedTable};
 ghost use Rattle.actor_run.specs.Passes.{AreAllIn, IsPassesOf};
 ghost use Rattle.volap_turns.specs.Rule.{all_there};
@@ -22,6 +23,8 @@ pub struct Hall {
     pub(crate) floor: Floor,
     /// One for each server's desk.
     pub(crate) bells: Vec<Bell>,
+    /// One for the hands of each worker.
+    pub(crate) hands: Vec<Bell>,
     pub(crate) alloc: Global,
 }
 
@@ -37,7 +40,7 @@ impl Model for Hall {
 
     ghost view = { λ h. h.floor };
 
-    ghost invariant = { λ h. (0 < length h.floor.hierarchy) × (vec_len h.bells ≡ h.floor.with.servers) };
+    ghost invariant = { λ h. (0 < length h.floor.hierarchy) × (vec_len h.bells ≡ h.floor.with.servers) × (vec_len h.hands ≡ h.floor.with.workers) };
 }
 
 impl Hall {
@@ -57,7 +60,8 @@ impl Hall {
             unreachable!()
         };
         let actors = places(alloc, actors)?;
-        let bells = bells(alloc, with.servers)?;
+        let desks = bells(alloc, with.servers)?;
+        let hands = bells(alloc, with.workers)?;
         let floor = Floor {
             hierarchy,
             with,
@@ -66,18 +70,38 @@ impl Hall {
         Ok((
             Hall {
                 floor,
-                bells,
+                bells: desks,
+                hands,
                 alloc,
             },
             Passes { seat, own, actors },
         ))
     }
 
-    /// The bell of a server's desk.
-    pub(crate) fn bell(&self, server: u8) -> &Bell
+    /// The bell of a server's desk, which whoever empties the desk rings.
+    pub fn bell(&self, server: u8) -> &Bell
         requires { server < self.now.with.servers }
     {
         &self.bells[usize::from(server)]
+    }
+
+    /// The bell of a worker's hands, which is rung where a part may wait for them, or the last session has gone.
+    pub fn hand_bell(&self, worker: u8) -> &Bell
+        requires { worker < self.now.with.workers }
+    {
+        &self.hands[usize::from(worker)]
+    }
+
+    /// The bells of all hands.
+    pub(crate) fn hand_bells(&self) -> &[Bell] {
+        self.hands.as_slice()
+    }
+
+    /// What all seats of the hall share.
+    pub fn floor(&self) -> &Floor
+        ensures { result.now ≡ self.now }
+    {
+        &self.floor
     }
 
     /// The state at the end of a hall whose passes are all in, with its ledger, its actors and all else. Takes no memory.
@@ -93,6 +117,7 @@ impl Hall {
                 table,
             },
             bells: _,
+            hands: _,
             alloc: _,
         } = self;
         let Passes {
@@ -115,9 +140,28 @@ fn opened(
     requires fits { IsHallFor h.now with.now roles }
     ensures { IfOk result (λ r. IsOpenedTable (hall_setting h.now with.now roles) r.0 r.1 r.2.items) }
 {
-    roles.push(Role::Admin)?;
+    let own = own_role(roles.as_slice());
+    roles.push(own)?;
     opening_is_whole();
     open(alloc, h, volap_cell::open(alloc, h, with, roles)?)
+}
+
+/// The role of the hall's own actor, which is the administrator where none of these is that.
+fn own_role(roles: &[Role]) -> Role
+    ensures { result ≡ own_role roles.now }
+{
+    if has_admin(roles) {
+        Role::Puller
+    } else {
+        Role::Admin
+    }
+}
+
+/// Whether one of the roles is the administrator's.
+fn has_admin(roles: &[Role]) -> bool
+    ensures { result ≡ list_any is_admin roles.now }
+{
+    roles.iter().any(|role| matches!(role, Role::Admin))
 }
 
 /// A place for each actor, with room for one more.

@@ -13,6 +13,7 @@ mod session;
 #[cfg(test)]
 mod tests;
 
+pub use bell::Bell;
 pub use cursor::{Cursor, Visit};
 pub use hall::Hall;
 pub use passes::{Pass, Passes};

@@ -1,6 +1,6 @@
 //! The passes of a hall.
 ghost use Rattle.std.specs.Prelude.{◌≡◌, ◌<◌, IfSome, IfNone, None, Some, get_or, length, set, vec_len, vec_capacity};
-ghost use Rattle.actor_run.specs.Passes.{HasGiven, HasTaken, IsOut, IsPassOf, IsPassesOf};
+ghost use Rattle.actor_run.specs.Passes.{HasGiven, HasTaken, IsOut, IsPass, IsPassOf, IsPassesOf, pass_of};
 
 use crate::hall::Hall;
 use seat_steps::Player;
@@ -56,6 +56,25 @@ impl Model for Passes {
 
     // There is room for the hall's own, which is put behind the others at the end.
     ghost invariant = { λ p. ArePasses p.seat p.own p.actors.items × (vec_len p.actors < vec_capacity p.actors) };
+}
+
+impl Pass {
+    /// The actor of the pass at its seat, for what actors of its role do.
+    pub fn into_player(self) -> Player
+        ensures pass { IsPass result }
+        ensures same { pass_of result ≡ self }
+    {
+        let Pass { player } = self;
+        player
+    }
+
+    /// The pass of an actor that has nothing to do.
+    pub fn of(player: Player) -> Pass
+        requires { IsPass player }
+        ensures { result ≡ pass_of player }
+    {
+        Pass { player }
+    }
 }
 
 impl Passes {

@@ -5,6 +5,7 @@ ghost use Rattle.actor_run.specs.Passes.{IsPassOf};
 ghost use Rattle.actor_run.specs.Sessions.{BecomesPass, DoesInsert, DoesQuery, IsPassFor, IsSessionRole};
 ghost use Rattle.dim_hierarchy.specs.Names.{IsNamePick};
 
+use crate::bell::wake;
 use crate::calls::{insert, query};
 use crate::cursor::Cursor;
 use crate::gates::begin;
@@ -132,6 +133,7 @@ impl<'a> Session<'a> {
             alloc,
             &hall.floor,
             hall.bell(self.server),
+            hall.hand_bells(),
             &mut self.player,
             &mut self.seen,
             filter,
@@ -161,7 +163,17 @@ impl<'a> Session<'a> {
         } = self;
         let was = Snapshot::of(&player);
         let bell = hall.bell(server);
-        match begin(rt, alloc, &hall.floor, bell, &mut player, &mut seen, filter) {
+        let hands = hall.hand_bells();
+        match begin(
+            rt,
+            alloc,
+            &hall.floor,
+            bell,
+            hands,
+            &mut player,
+            &mut seen,
+            filter,
+        ) {
             Ok((of, filter)) => Ok(Cursor {
                 hall,
                 server,
@@ -202,6 +214,7 @@ impl<'a> Session<'a> {
         } = self;
         empty_purse(rt, hall.alloc, &hall.floor, &mut player);
         leave(rt, hall.alloc, &hall.floor, &mut player);
+        wake(rt, hall.hand_bells());
         Pass { player }
     }
 }

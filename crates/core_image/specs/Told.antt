@@ -1,9 +1,9 @@
--- Which event a step puts in the history by which a command begins.
-use Rattle.std.specs.Prelude.{ℕ, ℤ, ◌≡◌, List, ◌∷◌, length}
+-- Which event a step puts in the history by which a command begins, or by which a called one ends.
+use Rattle.std.specs.{Option.option_map_or, Prelude.{ℕ, ℤ, ◌≡◌, List, ◌∷◌, length}}
 use Rattle.dim_hierarchy.specs.{declared.filter.Pick.Pick, declared.row.Coord.Coord}
-use Rattle.row_ledger.specs.{declared.event.Event.Event, declared.settings.Call.Call}
+use Rattle.row_ledger.specs.{declared.event.Event.Event, declared.settings.{Call.Call, How.How}}
 use Rattle.row_ledger.specs.declared.event.Event.TheVariants as event
-use Rattle.volap_cell.specs.{Cells.{CellValue, ledger_in}, Commands.server_of, Values.ActorValue}
+use Rattle.volap_cell.specs.{Cells.{CellValue, ledger_in}, Commands.server_of, Values.ActorValue, declared.command.Command.Command}
 
 -- What an actor's event is, at its place in the history.
 
@@ -21,6 +21,13 @@ refused_by a place = event.Refused a.number
 
 abbrev pub called_by : Call → ActorValue → ℕ → Event
 called_by call a place = event.Called a.number call
+
+-- where the actor's open command began; 0 where it has none
+abbrev pub open_of : ActorValue → ℕ
+open_of a = option_map_or (λ (c : Command). c.of) a.command 0
+
+abbrev pub ended_by : How → ActorValue → ℕ → Event
+ended_by how a place = event.Ended (open_of a) how
 
 -- the ledger has this event of the actor more
 abbrev pub Tells : (ActorValue → ℕ → Event) → ActorValue → CellValue → CellValue → Type 0

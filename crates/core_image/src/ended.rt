@@ -1,6 +1,7 @@
 //! The step that ends a command that is no insert and no query.
 ghost use Rattle.std.specs.Prelude.{◌≡◌, ◌<◌, ◌≤◌, [], ◌∷◌, None};
 ghost use Rattle.core_image.specs.NotesDue.{CanNoteEnded, NotesEnd};
+ghost use Rattle.core_image.specs.Told.{Tells, ended_by};
 ghost use Rattle.volap_cell.specs.Cells.{cell_of};
 ghost use Rattle.volap_cell.specs.Steps.{IsHere, Makes};
 ghost use Rattle.volap_cell.specs.Values.{actor_of};
@@ -18,6 +19,7 @@ pub fn note_ended(h: &Hierarchy, ledger_at: u32, ledger: &mut Cell, actor: &mut 
     requires here { IsHere h.now (held ledger_at (cell_of ledger.old) ∷ []) (actor_of actor.old) }
     requires due { CanNoteEnded how (cell_of ledger.old) (actor_of actor.old) }
     ensures made { Makes h.now Note (change ledger_at (cell_of ledger.old) (cell_of ledger.new) ∷ []) (actor_of actor.old) (actor_of actor.new) }
+    ensures told { Tells (ended_by how) (actor_of actor.old) (cell_of ledger.old) (cell_of ledger.new) }
     ensures over { (actor_of actor.new).command ≡ None }
 {
     let _ = h;

@@ -1,6 +1,6 @@
 -- What the notes in the ledger are, where their cells are, what they ask, and what they tell.
 use Rattle.std.specs.Prelude.{ℕ, ⊤, List, ◌∷◌, Option, Some, Bool, true, false}
-use Rattle.core_image.specs.{NotesDue.{CanNoteAsking, CanNoteCalled, CanNoteEnded, CanNoteLeft, CanNoteRefused, CanNoteShown, CanNoteUnknown}, Told.{Tells, called_by, refused_by, unknown_by}, ToldPages.shown_by}
+use Rattle.core_image.specs.{NotesDue.{CanNoteAsking, CanNoteCalled, CanNoteEnded, CanNoteLeft, CanNoteRefused, CanNoteShown, CanNoteUnknown}, Told.{Tells, called_by, ended_by, refused_by, unknown_by}, ToldPages.shown_by}
 use Rattle.core_steps.specs.Books.{EndsIn}
 use Rattle.core_steps.specs.Places.{one_at, two_at}
 use Rattle.core_steps.specs.declared.notes.NoteStep.{NoteStep}
@@ -36,7 +36,7 @@ note_tells (note.Unknown dim) a (Some ledger ∷ _) (Some ledger_now ∷ _) = Te
 note_tells note.Refused a (Some ledger ∷ _) (Some ledger_now ∷ _) = Tells refused_by a ledger ledger_now
 note_tells (note.Called call) a (Some ledger ∷ _) (Some ledger_now ∷ _) = Tells (called_by call.now) a ledger ledger_now
 note_tells (note.Asking call workers) a (_ ∷ Some ledger ∷ _) (_ ∷ Some ledger_now ∷ _) = Tells (called_by call.now) a ledger ledger_now
-note_tells (note.Ended how) a (Some ledger ∷ _) (Some ledger_now ∷ _) = EndsIn ledger ledger_now
+note_tells (note.Ended how) a (Some ledger ∷ _) (Some ledger_now ∷ _) = Tells (ended_by how) a ledger ledger_now
 note_tells note.Left a (Some ledger ∷ _) (Some ledger_now ∷ _) = EndsIn ledger ledger_now
 note_tells (note.Shown page) a (Some ledger ∷ _) (Some ledger_now ∷ _) = Tells (shown_by page) a ledger ledger_now
 note_tells step a was now = ⊤

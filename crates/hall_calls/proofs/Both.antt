@@ -1,8 +1,7 @@
 -- A hall with two sessions, from its opening to its end.
 use Rattle.std.proofs.{Common.{◌≡◌, ◌∙◌, ℕ, Bool, ◌+◌, ◌<◌, ◌≤◌, ◌^◌, ◌==◌, cond, inl, inr, List, [], ◌∷◌, ◌++◌, suc, zero, length, refl, sym, ap, subst, arith}, lemmas.{Bool.eq-eqb, List.Elements.{All-cons, All-nil}, List.Sums.sum_by-cons}}
 use Rattle.std.specs.Prelude.{Some, count_by, if◌then◌else◌, slice_get}
-use Rattle.actor_run.specs.{Halls.{HasClosed, HasOpened, IsHallFor, hall_setting}, Passes.{AreAllIn, HasGiven, HasTaken, IsOut, PassValue, PassesValue}}
-use Rattle.actor_run.specs.Halls as halls
+use Rattle.actor_run.specs.{Halls.{HasClosed, HasOpened, IsHallFor, hall_setting, own_role}, Passes.{AreAllIn, HasGiven, HasTaken, IsOut, PassValue, PassesValue}}
 use Rattle.dim_hierarchy.specs.{Dimension.{Dimension, IsHierarchy}, declared.filter.NamePick.NamePick}
 use Rattle.list_words.proofs.Elements.{Some-same}
 use Rattle.row_ledger.specs.{Right.IsRight, Site.site_of, declared.settings.Use.Use}
@@ -38,8 +37,6 @@ pub hall-fits : (h : List Dimension) (cells : ℕ) (roles : List Role) → roles
 hall-fits h cells roles are valid dims enough few = subst (IsHallFor h (two_servers cells)) (sym are) record {
   setting = setting-fits h cells valid enough few;
   dims = dims;
-  one_worker = refl;
-  sessions = All-cons halls.IsSession (Session 0) (Session 1 ∷ []) (0, refl) (All-cons halls.IsSession (Session 1) [] (1, refl) (All-nil halls.IsSession));
   few = omega arith;
 }
 
@@ -81,7 +78,7 @@ all-in opened one_out two_out one_in now a b c d all take_a take_b number_c numb
 
 -- the roles of an open hall
 settled : (h : List Dimension) (cells : ℕ) (roles : List Role) (f : Floor) (opened : PassesValue) → roles ≡ two_sessions → HasOpened h (two_servers cells) roles f opened → opened.setting.roles ≡ two_sessions ++ Admin ∷ []
-settled h cells roles f opened are is_open = ap (λ (x : Setting). x.roles) is_open.setting ∙ ap (λ (l : List Role). l ++ Admin ∷ []) are
+settled h cells roles f opened are is_open = ap (λ (x : Setting). x.roles) is_open.setting ∙ ap (λ (l : List Role). l ++ own_role l ∷ []) are
 
 still-settled : (was now : PassesValue) (pass : PassValue) (number : ℕ) → was.setting.roles ≡ two_sessions ++ Admin ∷ [] → HasTaken number was now pass → now.setting.roles ≡ two_sessions ++ Admin ∷ []
 still-settled was now pass number settled taken = ap (λ (p : PassesValue). p.setting.roles) taken.now_is ∙ settled

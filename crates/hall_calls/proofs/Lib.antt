@@ -1,4 +1,5 @@
 pub mod Rows
 pub mod Tellings
 pub mod Both
+pub mod Four
 pub mod Captures

@@ -1,7 +1,7 @@
 -- A history is a run of a script's commands, whole or in part.
-use Rattle.std.specs.{List.AllZip, Prelude.{ℕ, ◌≡◌, ◌+◌, ◌<◌, ◌⊎◌, ⊤, Bool, true, false, IsTrue, Option, Some, None, is_none, List, zip, position, AllPairs, Contains, IfSome, [], ◌∷◌, length, take}}
+use Rattle.std.specs.{List.AllZip, Prelude.{ℕ, ◌≡◌, ◌≢◌, ◌+◌, ◌<◌, ◌⊎◌, ⊤, Bool, true, false, IsTrue, Option, Some, None, is_none, List, zip, position, AllPairs, Contains, IfSome, [], ◌∷◌, length, take}}
 use Rattle.dim_hierarchy.specs.{Dimension.Dimension, Filter.{IsFilterNamed, picks}, Row.{IsCoordNamed, leaves}}
-use Rattle.row_ledger.specs.{Classes.class_of, Past.{event_at, before, is_over, is_beginning, call_at}, Right.EachEvent, Settled.{pulls_since, settle_pulls}, Site.known, declared.class.Class.Class, declared.class.Class.TheVariants.{Sync, Settle, Bare}, declared.event.Event.Event, declared.event.Event.TheVariants.{Begun, Acked, Asked, Unknown, Failed, Refused, Called, Ended}, declared.settings.How.How, declared.settings.How.TheVariants.{Fine, NoMemory}, declared.settings.Use.Use}
+use Rattle.row_ledger.specs.{Classes.class_of, Past.{event_at, before, is_over, is_beginning, call_at}, Right.EachEvent, Settled.{pulls_since, settle_pulls}, Site.known, declared.class.Class.Class, declared.class.Class.TheVariants.{Sync, Settle, Bare}, declared.event.Event.Event, declared.event.Event.TheVariants.{Begun, Acked, Asked, Unknown, Failed, Refused, Called, Ended}, declared.settings.Call.Call, declared.settings.How.How, declared.settings.How.TheVariants.{Fine, NoMemory}, declared.settings.Use.Use}
 use Rattle.script_form.specs.{declared.script.Command.Command, declared.script.Command.TheVariants.{Insert, Query, Control}}
 use Rattle.script_run.specs.{Phases.{phases_to, ranks}, Places.{session_of, session_of_call, server_for, places, are_over, end_of}}
 
@@ -61,6 +61,17 @@ ArePulls servers class how pulled = ⊤
 abbrev pub HasPulls : Use → List Event → Event → Type 0
 HasPulls with past (Ended of how) = IfSome (call_at past of) (λ called. ArePulls with.servers (class_of called) how (pulls_since past of))
 HasPulls with past e = ⊤
+
+-- whether a called command pulls: a sync and a settle do
+abbrev pub is_pulling : Class → Bool
+is_pulling (Sync server) = true
+is_pulling Settle = true
+is_pulling class = false
+
+-- when the command at a position began no other one that pulls was open, and none has begun since
+abbrev pub PullsAlone : List Event → ℕ → Type 0
+PullsAlone history of =
+    (p : ℕ) (call : Call) → call_at history p ≡ Some call → is_pulling (class_of call) ≡ true → p ≢ of → EndsBefore history (Some p) (Some of)
 
 -- Runs.
 

@@ -11,9 +11,11 @@ use Rattle.script_form.specs.declared.script.Command.TheVariants as script
 use Rattle.script_run.proofs.{Begin.begins-own, Between.{get-behind, none-count, order-begin-law}, InPhase.{phase_begin_law, rank_law}, NextCommand.take-front, PhaseEnds.get-first, PlaceFacts.{begins_of-here, begins_of-other, count_of-append}, Whole.get-some}
 use Rattle.script_run.specs.{Between.IsInOrder, Parts.place_in, Phases.{closes, is_closing, ranks}, Places.{begins_of, count_of, is_over_at, session_of}, Runs.Begins, Streams.{NoneCloses, IsInPhase, IsReady, StepsOn}}
 use Rattle.volap_cell.specs.{Ghost.Ghost, ImageKinds.doing, Invariant.InvWith, Setting.Setting, Steps.history_in, View.view, World.World, declared.command.Command.Command as OpenCommand, declared.command.Work.Work, declared.role.Role.TheVariants.Hand}
-use Rattle.seeded_run.proofs.{Counted.counted-law, Cursors.Cursors.{first-law, is-one}, Cursors.Firsts.{IsFirst, first-at, first-fails, first-pass, first-some, over-at, over-place, over-still, over_in, place-behind, place-now, place_since}, Holding.LeftAlone.{IsAtCommand, alone-parts, apart, closing-alone, does-nothing, next-due, same-or-not}, Phases.Keeps.{Own, OwnPulls, behind-by, can-first, doing-is, idle-from, is-at-command, kept-by, none-some, one-more, opened-other}, Phases.PhaseRuns.{is-actor, low-or-high, opened-none, past-over, rest-past}, Phases.Pulled.{begin-pulls-none, deed-session, pulled-none}, Scripts.hand-behind, Told.told-law}
+use Rattle.core_told.proofs.{Pulled.{begin-pulls-none, deed-session, pulled-none}, Told.{doing-is, none-some, told-law}}
+use Rattle.core_told.specs.Told.{HasPulled, OfBeginning, OfDeed, OfEnd, OfNothing, OfPage, OfPull, OpensCommand, OpensNone, OpensOne, TellsBeginning, Told, begins_closing, is_closing_work, is_of_part}
+use Rattle.seeded_run.proofs.{Counted.counted-law, Cursors.Cursors.{first-law, is-one}, Cursors.Firsts.{IsFirst, first-at, first-fails, first-pass, first-some, over-at, over-place, over-still, over_in, place-behind, place-now, place_since}, Holding.LeftAlone.{IsAtCommand, alone-parts, apart, closing-alone, does-nothing, next-due, same-or-not}, Phases.Keeps.{Own, OwnPulls, behind-by, can-first, idle-from, is-at-command, kept-by, one-more, opened-other}, Phases.PhaseRuns.{is-actor, low-or-high, opened-none, past-over, rest-past}, Scripts.hand-behind}
 use Rattle.core_due.specs.Due.{desk_of, does_nothing}
-use Rattle.seeded_run.specs.{Cursors.HasCursors, Due.is_alone, Kept.{IsTurn, KeepsBeginningLaw, MovesOn, QuietLaw}, Rests.{PhaseRun, first_open, rest_of, stream_of}, Running.{HasPulled, IsRunning, RunsBehind, behind, is_closing_work, opened_in}, Told.{OfBeginning, OfDeed, OfEnd, OfNothing, OfPage, OfPull, OpensCommand, OpensNone, OpensOne, TellsBeginning, Told, begins_closing, is_of_part}}
+use Rattle.seeded_run.specs.{Cursors.HasCursors, Due.is_alone, Kept.{IsTurn, KeepsBeginningLaw, MovesOn, QuietLaw}, Rests.{PhaseRun, first_open, rest_of, stream_of}, Running.{IsRunning, RunsBehind, behind, opened_in}}
 
 -- Lists of commands.
 

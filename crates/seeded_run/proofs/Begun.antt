@@ -11,7 +11,8 @@ use Rattle.volap_cell.specs.declared.role.Role.TheVariants as role
 use Rattle.volap_cell.proofs.Cells.States.{same-actor, stands}
 use Rattle.core_due.proofs.Released.{reuse-told}
 use Rattle.core_due.specs.{Due.desk_of, Look.world_by, Reuses.reuse_due, Wants.is_carried_at}
-use Rattle.seeded_run.specs.{Commands.may_begin, Due.{due, free_kind, is_alone, next_kind}, DueSteps.due_step, Machine.{BeginsNow, HasLeftOver, HasTurned, IsDueNow, IsDueStep, IsPhaseHeld, IsPhaseKept, TakesTurn, about_in, next_at, phase_of, step_in, world_of}, Rests.{first_open, rest_of}, Steps.{begins_by, begins_of_one, is_for_part}, Takes.{AsksHere, carries_at, free_by}, Told.is_of_part, declared.turn.DueStep.TheVariants.{Begins, Reuses}, declared.machine.Running.Running}
+use Rattle.core_told.specs.Told.{is_of_part}
+use Rattle.seeded_run.specs.{Commands.may_begin, Due.{due, free_kind, is_alone, next_kind}, DueSteps.due_step, Machine.{BeginsNow, HasLeftOver, HasTurned, IsDueNow, IsDueStep, IsPhaseHeld, IsPhaseKept, TakesTurn, about_in, next_at, phase_of, step_in, world_of}, Rests.{first_open, rest_of}, Steps.{begins_by, begins_of_one, is_for_part}, Takes.{AsksHere, carries_at, free_by}, declared.turn.DueStep.TheVariants.{Begins, Reuses}, declared.machine.Running.Running}
 use Rattle.seeded_run.proofs.{Cursors.Held.{none-past, rest-none, rest-some}, Due.DueReuses.over-step, Due.DueSteps.{begins-apart, kind-of}, Holding.LeftAlone.{and-both, apart, at-command, both-parts, is-idle, off-part, or-true, same-or-not, true-or}, Phases.Movers.all-from, Phases.PhaseRuns.script, Seen.world-seen}
 
 may-of : (actors : List (Option Actor)) (n : ℕ) (k : Kind) → begins_by actors n k ≡ true → may_begin k ≡ true

@@ -9,7 +9,8 @@ use Rattle.core_steps.specs.declared.books.BookStep.TheVariants as book
 use Rattle.core_steps.specs.declared.jobs.JobStep.TheVariants as job
 use Rattle.script_form.specs.declared.script.Command.{Command}
 use Rattle.volap_cell.specs.{Errands.taken_of, Ghost.Ghost, Invariant.InvWith, Setting.{Setting, actor_count}, Sights.IsIdle, Steps.history_in, Values.ErrandValue, View.view, World.World, declared.command.Command.Command as OpenCommand, declared.command.Work.Work, declared.kind.Kind.Kind, declared.kind.Kind.TheVariants.{Reuse, TakePart}}
-use Rattle.seeded_run.specs.{Drives.{MayEndInstead, MayGiveWay, MayGoOn, MayShow, MayTake}, Due.is_alone, Instead.StandsFor, Machine.{IsDueNow, IsDueStep, IsPhaseKept, about_in, phase_of, world_of}, Rests.{PhaseRun, rest_of}, Steps.is_for_part, Told.is_of_part, declared.machine.Running.Running}
+use Rattle.core_told.specs.Told.{is_of_part}
+use Rattle.seeded_run.specs.{Drives.{MayEndInstead, MayGiveWay, MayGoOn, MayShow, MayTake}, Due.is_alone, Instead.StandsFor, Machine.{IsDueNow, IsDueStep, IsPhaseKept, about_in, phase_of, world_of}, Rests.{PhaseRun, rest_of}, Steps.is_for_part, declared.machine.Running.Running}
 use Rattle.seeded_run.specs.declared.turn.DueStep.TheVariants.{AtPart, AtWork, Reuses, Takes}
 use Rattle.seeded_run.proofs.{Due.DueSteps.{at-part, at-reuse, at-take, at-work, kind-of}, Holding.LeftAlone.{alone-parts, both-parts}, Instead.made-as-due, PagesMayShow.may-show, PartsMayGoOn.{may-give-back, may-go-on, may-take, sound}, Phases.Turns.meets-it, States.state-of, WorksMayGoOn.may-go-on-with}
 

@@ -11,7 +11,6 @@ pub mod Ready
 pub mod Instead
 pub mod Seen
 pub mod Looks
-pub mod Told
 pub mod Begins
 pub mod Takings
 pub mod WantedFor

@@ -14,7 +14,8 @@ use Rattle.list_words.proofs.Elements.{Some-same}
 use Rattle.volap_cell.proofs.Cells.States.{is-some, of-it, stands}
 use Rattle.volap_cell.specs.{Cells.block_in, Setting.Setting, Values.{ActorValue, ErrandValue, actor_of}, World.World, declared.state.State.State}
 use Rattle.volap_cell.specs.declared.kind.Kind.TheVariants.{Down, FinishPart}
-use Rattle.seeded_run.specs.{Arms.GoesOnAtPart, Drives.{HasActor, IsFound}, Instead.in_place_of, Told.is_of_part}
+use Rattle.core_told.specs.Told.{is_of_part}
+use Rattle.seeded_run.specs.{Arms.GoesOnAtPart, Drives.{HasActor, IsFound}, Instead.in_place_of}
 use Rattle.seeded_run.proofs.States.{further-then}
 
 -- Of which kind it is.

@@ -11,7 +11,6 @@ pub mod InTurn
 pub mod Orders
 pub mod OneTurn
 pub mod PhaseRuns
-pub mod Pulled
 pub mod Keeps
 pub mod Turns
 pub mod WholePhases

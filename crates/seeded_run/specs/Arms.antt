@@ -3,7 +3,8 @@ use Rattle.std.specs.Prelude.{ℕ, ◌≡◌, ◌≢◌, ◌⊎◌, true, List}
 use Rattle.core_steps.specs.Steps.{IsFurther}
 use Rattle.dim_hierarchy.specs.Dimension.{Dimension}
 use Rattle.volap_cell.specs.{State.IsWorldOf, Steps.history_in, World.World, declared.kind.Kind.Kind, declared.kind.Kind.TheVariants.Note, declared.state.State.State}
-use Rattle.seeded_run.specs.{Instead.StandsFor, Told.is_of_part}
+use Rattle.core_told.specs.Told.{is_of_part}
+use Rattle.seeded_run.specs.Instead.{StandsFor}
 
 -- the actor has gone on with a part or with its purse, where a step of this kind was due
 abbrev pub GoesOnAtPart : (h : List Dimension) (due : Kind) (n : ℕ) (was now : State) → Type 0

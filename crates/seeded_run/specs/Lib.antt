@@ -13,7 +13,6 @@ pub mod Ranks
 pub mod Measure
 pub mod Progress
 pub mod Running
-pub mod Told
 pub mod Instead
 pub mod Commands
 pub mod Kept

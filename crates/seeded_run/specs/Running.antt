@@ -1,11 +1,11 @@
 -- What holds between the steps of a phase.
-use Rattle.std.specs.Prelude.{ℕ, ◌≡◌, ◌≢◌, ◌+◌, ⊤, Bool, true, false, List, [], ◌∷◌, ◌++◌, Option, Some, option_map, length, take, slice_get}
+use Rattle.std.specs.Prelude.{ℕ, ◌≡◌, ◌≢◌, ◌+◌, Bool, true, List, ◌++◌, Option, Some, option_map, length, slice_get}
 use Rattle.script_form.specs.declared.script.Command.{Command}
 use Rattle.script_run.specs.{Between.IsInOrder, Places.{begins_of, count_of, session_of}, Streams.IsInPhase}
-use Rattle.row_ledger.specs.Settled.{pulls_since, settle_pulls}
-use Rattle.volap_cell.specs.{Setting.Setting, Steps.history_in, World.World, declared.command.Command.Command as OpenCommand, declared.command.Work.Work}
-use Rattle.volap_cell.specs.declared.command.Work.TheVariants as work_is
+use Rattle.row_ledger.specs.Settled.{pulls_since}
+use Rattle.volap_cell.specs.{Setting.Setting, Steps.history_in, World.World, declared.command.Command.Command as OpenCommand}
 use Rattle.core_due.specs.Due.{does_nothing}
+use Rattle.core_told.specs.Told.{HasPulled, is_closing_work}
 use Rattle.seeded_run.specs.{Cursors.HasCursors, Due.is_alone, Progress.{ArePagesNext, AreScriptRoles, IsNobodyIn, IsPhaseOf}, Rests.{PhaseRun, first_open, rest_of}}
 
 -- by session: where the command began that its actor has open
@@ -18,25 +18,11 @@ AreAtOwn p next = (session : ℕ) (c : Command) → slice_get p.commands (next s
 
 -- Closing commands.
 
--- whether an open command closes its phase
-abbrev pub is_closing_work : Work → Bool
-is_closing_work (work_is.Settle pulls) = true
-is_closing_work work_is.Bare = true
-is_closing_work (work_is.Page subject there shown) = true
-is_closing_work _ = false
-
--- while it is open everyone else is idle, with nothing left
+-- while a command is open that closes its phase everyone else is idle, with nothing left
 abbrev pub AreClosingAlone : Setting → World → (ℕ → List Command) → Type 0
 AreClosingAlone s w rest = (a : ℕ) (c : OpenCommand) → (w.actors a).command ≡ Some c → is_closing_work c.work ≡ true → is_alone s w rest a ≡ true
 
 -- Pulls.
-
--- the servers of the pulls since a sync or a settle began
-abbrev pub HasPulled : ℕ → Work → List ℕ → Type 0
-HasPulled servers (work_is.Sync server false) pulled = pulled ≡ []
-HasPulled servers (work_is.Sync server true) pulled = pulled ≡ server ∷ []
-HasPulled servers (work_is.Settle pulls) pulled = pulled ≡ take pulls (settle_pulls servers)
-HasPulled servers work pulled = ⊤
 
 -- each open command has pulled as far as its actor says, and nobody else pulled meanwhile
 abbrev pub ArePulling : Setting → World → Type 0

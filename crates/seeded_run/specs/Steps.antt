@@ -2,7 +2,8 @@
 use Rattle.std.specs.Prelude.{ℕ, ◌&&◌, Bool, is_none, is_some, false, List, Option, Some, None, get_or}
 use Rattle.volap_cell.specs.{Values.{ErrandValue, actor_of}, declared.actor.Actor.Actor, declared.kind.Kind.Kind}
 use Rattle.volap_cell.specs.declared.kind.Kind.TheVariants as kind
-use Rattle.seeded_run.specs.{Commands.may_begin, Told.is_of_part}
+use Rattle.core_told.specs.Told.{is_of_part}
+use Rattle.seeded_run.specs.Commands.{may_begin}
 
 -- whether a step of this kind goes on with the part that its actor has, or with its purse, or uses a cell again: who looks up without a
 -- part reads a load

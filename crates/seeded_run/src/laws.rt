@@ -6,7 +6,6 @@ ghost use Rattle.seeded_run.specs.Phase.{OneTurnLaw};
 ghost use Rattle.seeded_run.specs.Progress.{CanLaw, DueLaw, EndLaw, OrderEndLaw, ScriptLaw};
 ghost use Rattle.seeded_run.specs.Measure.{CountedLaw, FewerLaw, LimitsLaw, MostLaw, StepsLeftLaw};
 ghost use Rattle.seeded_run.specs.Ranks.{RankFallsLaw, StepFallsLaw, WaitingLaw};
-ghost use Rattle.seeded_run.specs.Told.{OthersLaw, ToldLaw};
 
 /// A stream has all its commands as the phase begins, and one less whenever one begins.
 pub fn streams_run_out()
@@ -77,13 +76,6 @@ pub fn somebody_goes_on()
 /// The actors of a script's run and a phase of it are such as the laws above ask for.
 pub fn scripts_run_so()
     ensures { ScriptLaw }
-{}
-
-/// A step tells the history nothing, or one of the things that its actor's command comes to next; and
-/// all other actors stay as they are.
-pub fn steps_tell_so()
-    ensures told { ToldLaw }
-    ensures others { OthersLaw }
 {}
 
 /// A phase begins where everybody is idle, and where nobody can make a step any more everybody is idle again, no gate

@@ -22,7 +22,7 @@ pub use by_hand::{Move, run_by_hand};
 pub use laws::{
     cursors_tell_rests, due_steps_are_made, idle_actors_wait, less_is_left, limits_hold,
     one_steps_in_order, parts_go_on, phases_begin_and_end, phases_go_on_behind, scripts_run_so,
-    somebody_goes_on, steps_keep_a_phase, steps_run_out, steps_tell_so, streams_run_out,
+    somebody_goes_on, steps_keep_a_phase, steps_run_out, streams_run_out,
 };
 pub use opening::open_core;
 pub use phase::{run_commands, run_phase};

@@ -7,10 +7,10 @@ use Rattle.row_ledger.specs.{Classes.class_of, Right.{EachEvent, Site, Stands}, 
 use Rattle.script_form.specs.declared.script.Command.{Command}
 use Rattle.script_form.specs.declared.script.Command.TheVariants.{Control}
 use Rattle.script_run.proofs.{Between.{get-behind, through-law}, InPhase.rank_law, PhaseEnds.start_law, PhaseFacts.all_of-phases, Whole.part_law}
-use Rattle.script_run.specs.{Between.IsThrough, Phases.{all_of, closes, is_closing, phases, ranks}, Places.{session_of, session_of_call}, Runs.IsRunSoFar, Streams.NoneCloses}
+use Rattle.script_run.specs.{Between.IsThrough, Phases.{all_of, closes, is_closing, phases, ranks}, Places.{session_of, session_of_call}, Runs.{IsRunSoFar, is_pulling}, Streams.NoneCloses}
 use Rattle.session_runs.proofs.{Later.later-then, Ran.{GoTogether, part-now, few-now, through-all}}
 use Rattle.session_runs.specs.Laws.{AloneLaw, PhaseLaw, RunLaw, StopLaw, TogetherLaw}
-use Rattle.session_runs.specs.Sessions.{DoesInTurn, DoesPhase, DoesPhases, EachDoes, IsLater, is_pulling, stream_of}
+use Rattle.session_runs.specs.Sessions.{DoesInTurn, DoesPhase, DoesPhases, EachDoes, IsLater, stream_of}
 
 -- Later histories.
 

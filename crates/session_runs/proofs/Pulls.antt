@@ -3,9 +3,9 @@ use Rattle.std.proofs.{Common.{◌≡◌, ◌≢◌, ◌∙◌, ℕ, ◌<◌, in
 use Rattle.std.specs.{Option.option_map_or, Prelude.{IsTrue, option_and_then}}
 use Rattle.row_ledger.proofs.{Before.{ended-later}, Fresh.kind-within}
 use Rattle.row_ledger.specs.{Classes.class_of, Past.{before, call_at, call_in, ends_itself, event_at, has_ended, is_over}, Right.{EachEvent, IsRightEnd, Site, Stands}, declared.class.Class.Class, declared.class.Class.TheVariants.{Sync, Settle}, declared.event.Event.Event, declared.event.Event.TheVariants.{Called, Ended}, declared.settings.Call.Call, declared.settings.How.How, declared.settings.Use.Use}
-use Rattle.script_run.specs.Runs.{ArePulls, EndsBefore, HasPulls}
+use Rattle.script_run.specs.Runs.{ArePulls, EndsBefore, HasPulls, PullsAlone, is_pulling}
 use Rattle.session_runs.proofs.Later.{at-first, before-then, each-at, ends-first, later-before}
-use Rattle.session_runs.specs.Sessions.{EndsWithPulls, IsLater, PullsAlone, is_pulling}
+use Rattle.session_runs.specs.Sessions.{EndsWithPulls, IsLater}
 
 -- no other command that pulls was open when the command at a position began, and none has begun since, below a position
 abbrev pub PullsAloneTo : ℕ → List Event → ℕ → Type 0

@@ -7,9 +7,9 @@ use Rattle.row_ledger.specs.{Classes.class_of, Past.{before, event_at, is_beginn
 use Rattle.script_form.specs.declared.script.Command.{Command}
 use Rattle.script_form.specs.declared.script.Command.TheVariants.{Insert, Query, Control}
 use Rattle.script_run.proofs.{Begin.bool-or, Between.get-behind, Grow.{below-or, ends-none, within}, NextCommand.some-eq, PhaseEnds.{first-place, get-first, start_law}, PlaceFacts.{GoesOn, HaveBegun, count_of-append, places_behind-kept}, Whole.get-some}
-use Rattle.script_run.specs.{Between.IsThrough, Parts.{IsPartAt, Waits, place_in}, Places.{begins_of, count_of, session_of}, Runs.{ArePulls, Begins, BeginsAt, EndsBefore, HasPulls}}
+use Rattle.script_run.specs.{Between.IsThrough, Parts.{IsPartAt, Waits, place_in}, Places.{begins_of, count_of, session_of}, Runs.{ArePulls, Begins, BeginsAt, EndsBefore, HasPulls, is_pulling}}
 use Rattle.session_runs.proofs.{Later.{at-first, before-then, begins-then, behind-or, begins-within, each-at, each-from, ends-behind, ends-then, has-begun, more-from, over-then}, Pulls.{PullsAloneTo, ends-once, is-called, plain-pulls}, Streams.{among, count-past, in-stream, place-behind, stream-length}, Turns.{AreDone, IsDone, in-turn}}
-use Rattle.session_runs.specs.Sessions.{EachDoes, EachDoesFirst, IsLater, is_pulling, stream_of}
+use Rattle.session_runs.specs.Sessions.{EachDoes, EachDoesFirst, IsLater, stream_of}
 
 get-more : (xs ys : List ℕ) (j : ℕ) → slice_get (xs ++ ys) (length xs + j) ≡ slice_get ys j
 get-more [] ys j = let is : 0 + j ≡ j = omega arith in ap (slice_get ys) is

@@ -7,9 +7,9 @@ use Rattle.row_ledger.proofs.Positions.{event_at-past}
 use Rattle.row_ledger.specs.{Past.{before, call_at, end_in, event_at}, Settled.pulls_since, declared.event.Event.Event, declared.event.Event.TheVariants.{Called, Ended, Refused}, declared.settings.Call.Call, declared.settings.Call.TheVariants.Sync, declared.settings.How.How, declared.settings.How.TheVariants.Fine}
 use Rattle.script_form.specs.{declared.script.Command.Command, declared.script.Command.TheVariants.{Control, Insert}, declared.script.NewRow.NewRow}
 use Rattle.script_run.proofs.Grow.{same-or}
-use Rattle.script_run.specs.{Places.begins_of, Runs.HasPulls, Worked.two}
+use Rattle.script_run.specs.{Places.begins_of, Runs.{HasPulls, PullsAlone}, Worked.two}
 use Rattle.session_runs.proofs.Pulls.{call-within}
-use Rattle.session_runs.specs.{Sessions.{BeginsNothing, DoesCommand, DoesInTurn, EachDoes, EndsWithPulls, IsLater, PullsAlone, stream_of}, Worked.{at_once, opened, pulled_twice, row_and_sync}}
+use Rattle.session_runs.specs.{Sessions.{BeginsNothing, DoesCommand, DoesInTurn, EachDoes, EndsWithPulls, IsLater, stream_of}, Worked.{at_once, opened, pulled_twice, row_and_sync}}
 
 -- Done at once.
 

@@ -1,10 +1,10 @@
 -- What the calls of a session tell of the history that all share. A call knows the history that its session had seen, the one that
 -- it has seen now, and its own command in this; whatever else is new there others did meanwhile.
-use Rattle.std.specs.Prelude.{ℕ, ◌≡◌, ◌≢◌, ◌==◌, ◌⊎◌, Bool, true, false, IsTrue, Some, List, [], ◌∷◌, ◌++◌, filter}
+use Rattle.std.specs.Prelude.{ℕ, ◌≡◌, ◌==◌, ◌⊎◌, IsTrue, Some, List, [], ◌∷◌, ◌++◌, filter}
 use Rattle.dim_hierarchy.specs.Dimension.{Dimension}
-use Rattle.row_ledger.specs.{Classes.class_of, Past.{before, call_at, event_at, is_over}, declared.class.Class.Class, declared.class.Class.TheVariants.{Sync, Settle}, declared.event.Event.Event, declared.event.Event.TheVariants.Ended, declared.settings.Call.Call, declared.settings.How.How, declared.settings.Use.Use}
+use Rattle.row_ledger.specs.{Past.{before, event_at, is_over}, declared.event.Event.Event, declared.event.Event.TheVariants.Ended, declared.settings.How.How, declared.settings.Use.Use}
 use Rattle.script_form.specs.declared.script.Command.{Command}
-use Rattle.script_run.specs.{Places.{begins_of, session_of}, Runs.{BeginsAt, EndsBefore, HasPulls}, Streams.NoneCloses}
+use Rattle.script_run.specs.{Places.{begins_of, session_of}, Runs.{BeginsAt, HasPulls, PullsAlone}, Streams.NoneCloses}
 
 -- Histories.
 
@@ -18,17 +18,6 @@ pub record BeginsNothing (session : ℕ) (past now : List Event) : Type 0 where
   pub none : begins_of now session ≡ begins_of past session
 
 -- Pulls.
-
--- whether a called command pulls: a sync and a settle do
-abbrev pub is_pulling : Class → Bool
-is_pulling (Sync server) = true
-is_pulling Settle = true
-is_pulling class = false
-
--- when the command at a position began no other one that pulls was open, and none has begun since
-abbrev pub PullsAlone : List Event → ℕ → Type 0
-PullsAlone history of =
-    (p : ℕ) (call : Call) → call_at history p ≡ Some call → is_pulling (class_of call) ≡ true → p ≢ of → EndsBefore history (Some p) (Some of)
 
 -- where the command at a position has its end, it had pulled as it was to
 abbrev pub EndsWithPulls : Use → List Event → ℕ → Type 0

@@ -1,11 +1,13 @@
 //! The beginnings of a session's inserts and queries, and the notes of those that don't begin.
-ghost use Rattle.std.specs.Prelude.{◌≡◌, ◌<◌, IfOk, OnErr, OnOk, length};
+ghost use Rattle.std.specs.Prelude.{◌≡◌, ◌<◌, ◌≤◌, IfOk, OnErr, OnOk, length};
 ghost use Rattle.dim_hierarchy.specs.Filter.{IsFilterOf};
 ghost use Rattle.dim_hierarchy.specs.Row.{IsCoordOf};
 ghost use Rattle.session_steps.specs.Begins.{CanBegin, HasBegunInsert, HasBegunQuery, HasNoted};
 ghost use Rattle.core_image.specs.Told.{refused_by, unknown_by};
 ghost use Rattle.seat_steps.specs.Booked.{IsAsBefore};
 ghost use Rattle.seat_steps.specs.Floors.{Stands};
+ghost use Rattle.volap_cell.specs.ImageKinds.{IsFree};
+ghost use Rattle.volap_cell.specs.Values.{actor_of};
 
 use crate::books::{DESK, books_of, take_image, take_image_alone};
 use crate::desks::is_empty_at;
@@ -84,7 +86,7 @@ pub fn begin_query<R: Wait>(
     }
 }
 
-/// The session notes that its next command names what is not known, first in this dimension.
+/// The actor notes that its next command names what is not known, first in this dimension.
 pub fn note_unknown<R: Wait>(
     rt: &R,
     alloc: Global,
@@ -93,14 +95,15 @@ pub fn note_unknown<R: Wait>(
     dim: u8,
 ) -> Result<(), AllocError>
     requires stands { Stands floor.now player.old }
-    requires begins { CanBegin player.old }
+    requires free { IsFree (actor_of player.old.actor) }
+    requires noted { (actor_of player.old.actor).seen ≤ length player.old.seat.view.seen }
     ensures noted { OnOk result (HasNoted floor.now (unknown_by dim) player.old player.new) }
     ensures same { OnErr result (IsAsBefore floor.now player.old player.new) }
 {
     make_booked(rt, alloc, floor, player, NoteStep::Unknown { dim })
 }
 
-/// The session notes that its next command found no memory before it began.
+/// The actor notes that its next command found no memory before it began.
 pub fn note_refused<R: Wait>(
     rt: &R,
     alloc: Global,
@@ -108,7 +111,8 @@ pub fn note_refused<R: Wait>(
     player: &mut Player,
 ) -> Result<(), AllocError>
     requires stands { Stands floor.now player.old }
-    requires begins { CanBegin player.old }
+    requires free { IsFree (actor_of player.old.actor) }
+    requires noted { (actor_of player.old.actor).seen ≤ length player.old.seat.view.seen }
     ensures noted { OnOk result (HasNoted floor.now refused_by player.old player.new) }
     ensures same { OnErr result (IsAsBefore floor.now player.old player.new) }
 {

@@ -2,6 +2,7 @@
 ghost use Rattle.std.specs.Prelude.{◌≡◌, ◌^◌, ◌<◌, [], true, false};
 ghost use Rattle.session_steps.specs.Coming.{HasCome, HasEmptied, HasLeft, IsAtNothing};
 ghost use Rattle.seat_steps.specs.Floors.{Stands};
+ghost use Rattle.volap_cell.specs.ImageKinds.{IsFree};
 ghost use Rattle.volap_cell.specs.Setting.{actor_count};
 ghost use Rattle.volap_cell.specs.Values.{actor_of};
 
@@ -40,10 +41,10 @@ pub fn leave<R: Wait>(rt: &R, alloc: Global, floor: &Floor, player: &mut Player)
     let _ = make(alloc, floor, player, CountStep::Goes { desk });
 }
 
-/// The spares that are left in the purse of a session with nothing to do go back to the stock. Takes no memory.
+/// The spares that are left in the purse of an actor with nothing to do go back to the stock. Takes no memory.
 pub fn empty_purse<R: Wait>(rt: &R, alloc: Global, floor: &Floor, player: &mut Player)
     requires stands { Stands floor.now player.old }
-    requires nothing { IsAtNothing player.old }
+    requires free { IsFree (actor_of player.old.actor) }
     ensures emptied { HasEmptied floor.now player.old player.new }
 {
     if is_spent(&player.actor) {

@@ -1,12 +1,13 @@
 //! How much of the history there is.
 ghost use Rattle.std.specs.Prelude.{◌≡◌, length};
 ghost use mathlib.Core.Option.{some};
-ghost use Rattle.session_steps.specs.Coming.{IsAtNothing};
 ghost use Rattle.seat_steps.specs.Booked.{IsAsBefore};
 ghost use Rattle.seat_steps.specs.Floors.{IsSeated, Stands};
 ghost use Rattle.seat_steps.specs.Looks.{Sees};
 ghost use Rattle.turn_table.specs.Numbered.{value_of};
 ghost use Rattle.volap_cell.specs.Cells.{cell_of, ledger_in};
+ghost use Rattle.volap_cell.specs.ImageKinds.{IsFree};
+ghost use Rattle.volap_cell.specs.Values.{actor_of};
 ghost use Rattle.volap_cell.specs.declared.cell.Cell.{Cell};
 
 use core_steps::ledger_place;
@@ -14,10 +15,10 @@ use seat_steps::{Floor, LEDGER, Player, give_all, take_first};
 use std::sync::Wait;
 use volap_cell::Cell;
 
-/// The session waits for the turn of the ledger and sees the whole history, and tells how many events there are. Takes no memory.
+/// An actor that does nothing waits for the turn of the ledger and sees the whole history, and tells how many events there are. Takes no memory.
 pub fn hear<R: Wait>(rt: &R, floor: &Floor, player: &mut Player) -> u64
     requires stands { Stands floor.now player.old }
-    requires nothing { IsAtNothing player.old }
+    requires free { IsFree (actor_of player.old.actor) }
     ensures same { IsAsBefore floor.now player.old player.new }
     ensures count { result ≡ length player.new.seat.view.seen }
 {

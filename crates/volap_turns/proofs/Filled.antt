@@ -1,10 +1,11 @@
 -- Places of which each is filled, and what stands in them, as a table begins with it and ends.
-use Rattle.std.proofs.{Common.{◌≡◌, ◌∙◌, ℕ, suc, ◌<◌, List, [], ◌∷◌, length, Option, Some, None, get_or, refl, sym, ap, subst, arith}}
+use Rattle.std.proofs.{Common.{◌≡◌, ◌∙◌, ℕ, suc, ◌<◌, List, [], ◌∷◌, length, Option, Some, None, get_or, inl, inr, refl, sym, ap, subst, arith}, lemmas.Bool.cases_lt}
 use Rattle.std.specs.Prelude.{⊤, filter_map}
 use mathlib.Core.Option.{some, some-injective}
 use lib.ListN.{get_elem?}
 use Rattle.dim_hierarchy.specs.Dimension.{Dimension}
 use Rattle.row_ledger.specs.declared.event.Event.{Event}
+use Rattle.core_told.proofs.Pulling.{resting-law}
 use Rattle.turn_table.specs.{Law.IsClosed, Numbered.value_of, declared.view.View.View}
 use Rattle.turn_table.proofs.Numbered.{below_length, there}
 use Rattle.volap_cell.specs.{Cells.{cell_of, ledger_in}, Setting.{Setting, ledger_cell}, Sights.IsIdle, State.{Has, IsWorldOf}, Values.{ActorValue, actor_of}, World.World, declared.actor.Actor.Actor, declared.cell.Cell.Cell}
@@ -45,12 +46,20 @@ module _ {h : List Dimension} {cells : List (Option Cell)} {actors : List (Optio
   is-of : (xs : List Cell) (ys : List Actor) → all_there xs ≡ cells → all_there ys ≡ actors → IsWorldOf (all_there xs) (all_there ys) whole.sound.world
   is-of xs ys c a = subst (λ (l : List (Option Cell)). IsWorldOf l (all_there ys) whole.sound.world) (sym c) (subst (λ (l : List (Option Actor)). IsWorldOf cells l whole.sound.world) (sym a) whole.sound.is)
 
-  pub valid-of : (xs : List Cell) (ys : List Actor) → all_there xs ≡ cells → all_there ys ≡ actors → IsValid xs ys
-  valid-of xs ys c a = record {
+  -- where everybody is idle nobody has a command
+  at-rest : AreIdle cells actors → (a : ℕ) → (whole.sound.world.actors a).command ≡ None
+  at-rest idle a = elim (cases_lt a (length actors)) [
+    | inl low ↦ (idle whole.sound.world whole.sound.is a low).command
+    | inr high ↦ (whole.sound.is.no_actor a high).command
+  ]
+
+  pub valid-of : AreIdle cells actors → (xs : List Cell) (ys : List Actor) → all_there xs ≡ cells → all_there ys ≡ actors → IsValid xs ys
+  valid-of idle xs ys c a = record {
     setting = whole.sound.setting;
     world = whole.sound.world;
     is = is-of xs ys c a;
     inv = whole.sound.inv;
+    pulling = resting-law whole.sound.setting whole.sound.world (at-rest idle);
     wide = sym (long xs) ∙ ap (λ (l : List (Option Cell)). length l) c ∙ whole.wide;
     many = sym (long ys) ∙ ap (λ (l : List (Option Actor)). length l) a ∙ whole.many;
   }

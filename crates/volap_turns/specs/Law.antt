@@ -4,6 +4,8 @@ use mathlib.Core.Option.{some, none, some-injective, some-ne-none}
 use lib.ListN.{get_elem?}
 use Rattle.list_words.specs.Counts.{Each}
 use Rattle.row_ledger.specs.declared.event.Event.{Event}
+use Rattle.core_told.proofs.Pulling.{pulling-law}
+use Rattle.core_told.specs.Pulling.{IsPulling}
 use Rattle.turn_table.specs.Numbered.{Extends, value_of, write_all}
 use Rattle.turn_table.proofs.Numbered.{below_length, length_write_all, some_or_none}
 use Rattle.volap_cell.specs.{Cells.{CellValue, cell_of, ledger_in}, Errands.{IsCarried, way_of}, Opening.IsFresh, Setting.{Setting, ledger_cell}, State.{Exchange, changes_of}, Steps.{Inv, IsKept, history_in}, Values.{ActorValue, ErrandValue, actor_of}, World.{Agrees, MustKeep, World, after}, declared.actor.Actor.Actor, declared.cell.Cell.Cell, declared.kind.Kind.Kind}
@@ -60,6 +62,10 @@ rests-free a k rests needs = subst (λ (e : Option ErrandValue). IsCarried (way_
 inv-kept : (s : Setting) (kind : Kind) (n : ℕ) (w : World) (inv : Inv s w) (to : World) → IsKept s kind n w to inv.ghost_of → Inv s to
 inv-kept s kind n w inv to kept = record { ghost_of = kept.ghost_now; holds = kept.holds; reached = reached-on s kind n w to inv.reached kept.step }
 
+-- and what open commands had pulled alone stays so
+pulling-kept : (s : Setting) (kind : Kind) (n : ℕ) (w : World) (inv : Inv s w) (to : World) → IsKept s kind n w to inv.ghost_of → IsPulling s w → IsPulling s to
+pulling-kept s kind n w inv to kept has = pulling-law s kind n w to inv.ghost_of kept.ghost_now inv.holds kept.holds kept.step has
+
 -- what is kept of the history in a state is kept of the one that a ledger has
 longer : (newer before after was now : List Event) → after ≡ newer ++ before → before ≡ was → after ≡ now → Extends now was
 longer newer before after was now grows was_is now_is = (newer, sym now_is ∙ grows ∙ ap (λ (l : List Event). newer ++ l) was_is)
@@ -94,6 +100,7 @@ lawful cells actors s new i a b valid cell_count actor_count has own knows apart
         world = to;
         is = world-of (write_all cells new) (slice_set actors i b) to written;
         inv = inv-kept valid.setting g.kind i w valid.inv to kept;
+        pulling = pulling-kept valid.setting g.kind i w valid.inv to kept valid.pulling;
         wide = length_write_all cells new ∙ valid.wide;
         many = length-set actors i b ∙ valid.many;
       },

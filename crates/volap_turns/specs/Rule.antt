@@ -4,6 +4,7 @@ use mathlib.Core.Option.{some}
 use Rattle.dim_hierarchy.specs.Dimension.{Dimension}
 use Rattle.list_words.specs.Counts.{Each}
 use Rattle.row_ledger.specs.declared.event.Event.{Event}
+use Rattle.core_told.specs.Pulling.{IsPulling}
 use Rattle.turn_table.specs.{Law.{IsLawful, Sight}, Numbered.value_of}
 use Rattle.volap_cell.specs.{Cells.{FreeCell, cell_of, ledger_in}, Opening.IsFresh, Setting.{Setting, actor_count, cell_count, ledger_cell}, Sights.IsIdle, State.{Exchange, IsWorldOf, cells_now, changes_of}, Steps.{HasSight, Inv, Makes}, Values.actor_of, World.{World, MustKeep}, declared.actor.Actor.Actor, declared.cell.Cell.Cell, declared.kind.Kind.Kind}
 
@@ -11,12 +12,14 @@ use Rattle.volap_cell.specs.{Cells.{FreeCell, cell_of, ledger_in}, Opening.IsFre
 abbrev pub all_there : {A : Type 0} → List A → List (Option A)
 all_there xs = map (λ x. Some x) xs
 
--- The cells and actors by number are a state that meets the invariant, with each cell and each actor of its setting.
+-- The cells and actors by number are a state that meets the invariant, with each cell and each actor of its setting, and in which open
+-- commands that pull alone have pulled as far as their actors say.
 pub record IsValid (cells : List Cell) (actors : List Actor) : Type 0 where
   pub setting : Setting
   pub world : World
   pub is : IsWorldOf (all_there cells) (all_there actors) world
   pub inv : Inv setting world
+  pub pulling : IsPulling setting world
   pub wide : length cells ≡ cell_count setting
   pub many : length actors ≡ actor_count setting
 

@@ -14,7 +14,8 @@ use Rattle.core_due.specs.{Due.{desk_of, hand_kind, is_empty, is_empty_desk}, La
 use Rattle.core_due.specs.declared.parts.PartDue.TheVariants.{Tree}
 use Rattle.core_due.proofs.{PartKinds.part-kind, WorkKinds.work-kind}
 use Rattle.core_steps.specs.declared.{reuses.ReuseStep.ReuseStep, trees.TreeStep.TheVariants.GiveBack}
-use Rattle.seeded_run.specs.{Can.{can, can_step}, Commands.may_begin, Due.{actor_kind, are_known, command_kind, due, due_by, first_kind, free_kind, is_alone, kind_or, next_kind}, DueSteps.{IsOfKind, actor_step, command_step, due_step, free_step, step_due, step_due_by, step_if_free, step_or, step_where}, Rests.{PhaseRun, rest_of}, Told.is_of_part, declared.turn.DueStep.DueStep}
+use Rattle.core_told.specs.Told.{is_of_part}
+use Rattle.seeded_run.specs.{Can.{can, can_step}, Commands.may_begin, Due.{actor_kind, are_known, command_kind, due, due_by, first_kind, free_kind, is_alone, kind_or, next_kind}, DueSteps.{IsOfKind, actor_step, command_step, due_step, free_step, step_due, step_due_by, step_if_free, step_or, step_where}, Rests.{PhaseRun, rest_of}, declared.turn.DueStep.DueStep}
 use Rattle.seeded_run.specs.declared.turn.DueStep.TheVariants.{AtPart, AtWork, Begins, Reuses, Takes}
 use Rattle.seeded_run.proofs.Holding.LeftAlone.{both-parts}
 

@@ -15,7 +15,8 @@ use Rattle.volap_cell.specs.declared.role.Role.TheVariants as role
 use Rattle.seeded_run.proofs.{Due.Dues.all_below-at, Phases.Movers.all-from}
 use Rattle.core_due.specs.{Due.{any_below, carry_kind, desk_of, does_nothing, hand_kind, is_empty, kind_by, led_to, may_enter, placed_kind, read_kind, row_kind, task_kind}, Reuses.reuse_due}
 use Rattle.core_steps.specs.declared.reuses.ReuseStep.{ReuseStep}
-use Rattle.seeded_run.specs.{Due.{actor_kind, are_known, command_kind, due_by, first_kind, free_kind, is_alone, kind_or, next_kind}, Running.is_closing_work, Steps.is_for_part, Told.{is_of_part, is_plain}}
+use Rattle.core_told.specs.Told.{is_closing_work, is_of_part, is_plain}
+use Rattle.seeded_run.specs.{Due.{actor_kind, are_known, command_kind, due_by, first_kind, free_kind, is_alone, kind_or, next_kind}, Steps.is_for_part}
 
 -- Booleans.
 

@@ -11,13 +11,15 @@ use Rattle.script_form.specs.declared.script.Command.{Command}
 use Rattle.script_form.specs.declared.script.Command.TheVariants as script
 use Rattle.script_run.proofs.{Begin.begins-none, Between.order-other-law, InPhase.phase_other_law, PlaceFacts.begins_of-other}
 use Rattle.script_run.specs.{Between.IsInOrder, Places.{begins_of, count_of, session_of, session_of_call}, Runs.{ArePulls, HasPulls, Begins, BeginsAt}, Streams.IsInPhase}
-use Rattle.volap_cell.specs.{Commands.{MayNoteEnd, due_pull, once_shown, pulled_once}, Ghost.Ghost, ImageKinds.doing, Invariant.InvWith, Setting.Setting, Sights.IsIdle, Steps.{Step, history_in}, Telling.IsProgress, Values.ActorValue, View.view, World.World, declared.command.Command.Command as OpenCommand, declared.command.Work.Work}
+use Rattle.volap_cell.specs.{Commands.{MayNoteEnd, due_pull, once_shown, pulled_once}, Ghost.Ghost, ImageKinds.doing, Invariant.InvWith, Kinds.Does, Setting.Setting, Sights.IsIdle, Steps.{Step, history_in}, Telling.IsProgress, Values.ActorValue, View.view, World.{Change, World}, declared.command.Command.Command as OpenCommand, declared.command.Work.Work}
 use Rattle.volap_cell.specs.declared.command.Work.TheVariants as work_is
 use Rattle.volap_cell.specs.declared.kind.Kind.TheVariants as kind
-use Rattle.seeded_run.proofs.{Holding.LeftAlone.{IsAtCommand, alone-from, alone-parts, apart, at-command, both-parts, closing-off, does-nothing, is-idle, page-closing, plain-open, same-or-not, stuck, true-or, within-of}, Instead.made-as-due, Phases.InTurn.{nobody-else, own-or-over}, Phases.Pulled.{deed-ends, deed-pulls, deed-right, deed-session, end-pulls-none, end-right, plain-pulled, pull-next, pulled-more, pulled-same, right-if}, Told.{others-law, reuse-keeps, reuse-tells, told-law}}
+use Rattle.core_told.proofs.{Pulled.{deed-ends, deed-pulls, deed-right, deed-session, end-pulls-none, end-right, plain-pulled, pull-next, pulled-more, pulled-same, right-if, shown-pulled}, Told.{doing-is, none-some, others-law, reuse-tells, told-law}}
+use Rattle.core_told.specs.Told.{GoesFurther, HasPulled, OfBeginning, OfDeed, OfEnd, OfNothing, OfPage, OfPull, TellsDeed, TellsEnd, TellsNothing, TellsPage, TellsPull, Told, is_closing_work, is_of_part, is_plain}
+use Rattle.seeded_run.proofs.{Holding.LeftAlone.{IsAtCommand, alone-from, alone-parts, apart, at-command, both-parts, closing-off, does-nothing, is-idle, page-closing, plain-open, same-or-not, stuck, true-or, within-of}, Instead.made-as-due, Phases.InTurn.{nobody-else, own-or-over}}
 use Rattle.core_due.specs.Due.{does_nothing}
-use Rattle.seeded_run.specs.{Can.{can, can_step, is_turn_of}, Cursors.HasCursors, Due.{due, is_alone}, Instead.in_place_of, Kept.{IsTurn, KeepsOtherLaw}, Rests.{PhaseRun, first_open_behind, first_open, is_over_behind, rest_of, stream_of}, Running.{AreAtOwn, AreOthersIdle, HasPulled, IsRunning, RunsBehind, behind, is_closing_work, opened_in}, Steps.is_for_part, Told.{GoesFurther, OfBeginning, OfDeed, OfEnd, OfNothing, OfPage, OfPull, TellsDeed, TellsEnd, TellsNothing, TellsPage, TellsPull, Told, is_of_part, is_plain}}
-use Rattle.volap_cell.proofs.OneEvent.Noted.{end-begins-none}
+use Rattle.seeded_run.specs.{Can.{can, can_step, is_turn_of}, Cursors.HasCursors, Due.{due, is_alone}, Instead.in_place_of, Kept.{IsTurn, KeepsOtherLaw}, Rests.{PhaseRun, first_open_behind, first_open, is_over_behind, rest_of, stream_of}, Running.{AreAtOwn, AreOthersIdle, IsRunning, RunsBehind, behind, opened_in}, Steps.is_for_part}
+use Rattle.volap_cell.proofs.{OneEvent.Noted.end-begins-none, Views.Frames.actor-at}
 
 -- Events that neither begin nor end a command.
 
@@ -88,18 +90,6 @@ shown-once (work_is.Settle pulls) work_now is = cc
 shown-once (work_is.Action act) work_now is = cc
 shown-once (work_is.Balance b) work_now is = cc
 
-shown-pulled : (servers : ℕ) (work work_now : Work) (pulled : List ℕ) → once_shown work ≡ Some work_now → HasPulled servers work_now pulled
-shown-pulled servers (work_is.Page subject true false) work_now pulled is = let same : work_is.Page subject true true ≡ work_now = cc in subst (λ x. HasPulled servers x pulled) same tt
-shown-pulled servers (work_is.Page subject true true) work_now pulled is = cc
-shown-pulled servers (work_is.Page subject false shown) work_now pulled is = cc
-shown-pulled servers (work_is.Insert row routed) work_now pulled is = cc
-shown-pulled servers work_is.Query work_now pulled is = cc
-shown-pulled servers (work_is.Sync server did) work_now pulled is = cc
-shown-pulled servers work_is.Bare work_now pulled is = cc
-shown-pulled servers (work_is.Settle pulls) work_now pulled is = cc
-shown-pulled servers (work_is.Action act) work_now pulled is = cc
-shown-pulled servers (work_is.Balance b) work_now pulled is = cc
-
 -- a pull is a sync's or a settle's
 pull-kinds : (servers server : ℕ) (work : Work) → due_pull servers work ≡ Some server
     → ((x : ℕ) × (did : Bool) × (work ≡ work_is.Sync x did)) ⊎ (is_closing_work work ≡ true)
@@ -134,12 +124,6 @@ pull-no-page servers server (work_is.Page subject there shown) is = cc
 
 -- Commands.
 
-pub doing-is : (o : Option OpenCommand) (c : OpenCommand) (of : ℕ) (work : Work) → o ≡ Some c → o ≡ doing of work → (c.of ≡ of) × (c.work ≡ work)
-doing-is o c of work x y = (cc, cc)
-
-pub none-some : {X : Type 0} (o : Option OpenCommand) (c : OpenCommand) → o ≡ None → o ≡ Some c → X
-none-some o c x y = cc
-
 pub same-open : (o : Option ℕ) (a b : ℕ) → o ≡ Some a → o ≡ Some b → a ≡ b
 same-open o a b x y = cc
 
@@ -147,6 +131,17 @@ begins-called : (with : Use) (h : List Dimension) (past : List Event) (c : Comma
 begins-called with h past (script.Insert new) session server call class b = absurd b
 begins-called with h past (script.Query question) session server call class b = absurd b
 begins-called with h past (script.Control called) session server call class b = b.0 ∙ ap (λ (c : Call). session_of_call with (class_of c)) (sym b.1) ∙ ap (session_of_call with) class
+
+-- where a cell is used again its actor has to do what it had
+reuse-keeps : (s : Setting) (n : ℕ) (w now : World) → Step s kind.Reuse n w now → does_nothing (now.actors n) ≡ does_nothing (w.actors n)
+reuse-keeps s n w now step = ap (λ (x : World). does_nothing (x.actors n)) step.now_is ∙ ap does_nothing (actor-at w.actors n step.actor) ∙ by step.changes step.actor step.does
+  where
+    by : (cs : List Change) (b : ActorValue) → Does s.hierarchy kind.Reuse cs (w.actors n) b → does_nothing b ≡ does_nothing (w.actors n)
+    by [] b d = absurd d
+    by (c0 ∷ []) b d = absurd d
+    by (x ∷ c ∷ []) b d = ap does_nothing d.actor_is
+    by (x ∷ y ∷ c ∷ []) b d = ap does_nothing d.actor_is
+    by (c0 ∷ c1 ∷ c2 ∷ c3 ∷ more) b d = absurd d
 
 module _ (in_order : Bool) (s : Setting) (p : PhaseRun) (w now : World) (g g_now : Ghost) (next : ℕ → ℕ) (n : ℕ)
     (i : InvWith s (view s w) g) (i_now : InvWith s (view s now) g_now) (turn : IsTurn in_order s p w n now) (r : IsRunning in_order s p w next) where

@@ -11,8 +11,10 @@ use Rattle.script_run.specs.{Places.{begins_of, session_of}, Runs.Begins}
 use Rattle.volap_cell.specs.{Setting.{Setting, actor_count}, State.Stepped, Steps.{Step, history_in}, Values.{ActorValue, actor_of}, World.World, declared.actor.Actor.Actor, declared.cell.Cell.Cell, declared.command.Command.Command as OpenCommand, declared.kind.Kind.Kind, declared.kind.Kind.TheVariants.Note, declared.state.State.State}
 use Rattle.volap_cell.proofs.Cells.States.{is-some, stands}
 use Rattle.core_due.specs.{Due.does_nothing, Wants.meets}
-use Rattle.seeded_run.specs.{Arms.{GoesOnAtPart, GoesOnWithCommand, TellsIfNote}, Can.{can, can_step, is_turn_of}, Commands.{GoesBy, IsBegunBy, IsNextAt, IsToBegin, may_begin}, Core.IsCore, Due.due, Hands.IsFreeHand, Instead.StandsFor, Kept.{IsTurn, MovesOn}, Machine.{AloneInOrder, HasLeftOver, HasMovedOn, HasTurned, IsDueNow, IsPhaseHeld, IsPhaseKept, KnowsHands, KnowsOtherHands, RestsAsIs, about_in, next_at, phase_of, world_of}, Measure.BeginInTurn, Phase.most_actors, Rests.{PhaseRun, first_open, rest_of}, Running.{IsRunning, RunsBehind}, Steps.{begins_by, begins_of_one, is_for_part}, Told.is_of_part, Worlds.{setting_in, world_in}, declared.machine.Running.Running}
-use Rattle.seeded_run.proofs.{Begins.{keeps-beginning-law, quiet-law}, Counted.counted-law, Cursors.Held.rest-some, Holding.LeftAlone.{apart, both-parts, same-or-not}, Phases.InTurn.nobody-else, Phases.Keeps.keeps-other-law, Phases.Measure.fewer-law, States.same-core, Told.others-law, Worlds.{one-setting, only-world}}
+use Rattle.core_told.proofs.Told.{others-law}
+use Rattle.core_told.specs.Told.{is_of_part}
+use Rattle.seeded_run.specs.{Arms.{GoesOnAtPart, GoesOnWithCommand, TellsIfNote}, Can.{can, can_step, is_turn_of}, Commands.{GoesBy, IsBegunBy, IsNextAt, IsToBegin, may_begin}, Core.IsCore, Due.due, Hands.IsFreeHand, Instead.StandsFor, Kept.{IsTurn, MovesOn}, Machine.{AloneInOrder, HasLeftOver, HasMovedOn, HasTurned, IsDueNow, IsPhaseHeld, IsPhaseKept, KnowsHands, KnowsOtherHands, RestsAsIs, about_in, next_at, phase_of, world_of}, Measure.BeginInTurn, Phase.most_actors, Rests.{PhaseRun, first_open, rest_of}, Running.{IsRunning, RunsBehind}, Steps.{begins_by, begins_of_one, is_for_part}, Worlds.{setting_in, world_in}, declared.machine.Running.Running}
+use Rattle.seeded_run.proofs.{Begins.{keeps-beginning-law, quiet-law}, Counted.counted-law, Cursors.Held.rest-some, Holding.LeftAlone.{apart, both-parts, same-or-not}, Phases.InTurn.nobody-else, Phases.Keeps.keeps-other-law, Phases.Measure.fewer-law, States.same-core, Worlds.{one-setting, only-world}}
 
 -- the core that stands behind a step
 pub core-then : (h : List Dimension) (with : Use) (cells cells_now : List (Option Cell)) (actors actors_now : List (Option Actor)) (s : Setting) (w : World) (k : Kind) (n : ℕ)

@@ -1,13 +1,16 @@
 use Rattle.std.proofs.Common.{ap}
-use Rattle.actor_run.proofs.Sessions.{as-before, can-begin, refused-later, told}
+use Rattle.actor_run.proofs.Sessions.{as-before, refused-later, told}
 use Rattle.volap_cell.specs.Values.{ActorValue}
 use Rattle.actor_run.proofs.calls.note.Goals as goal
 
 pub note_unknown-requires-clause-stands : goal.note_unknown-requires-clause-stands
 note_unknown-requires-clause-stands g c = c.requires.session.1.stands
 
-pub note_unknown-requires-clause-begins : goal.note_unknown-requires-clause-begins
-note_unknown-requires-clause-begins g c = can-begin c.args.floor.now c.requires.session.0 c.args.player.now c.requires.session.1
+pub note_unknown-requires-clause-free : goal.note_unknown-requires-clause-free
+note_unknown-requires-clause-free g c = c.requires.session.1.free
+
+pub note_unknown-requires-clause-noted : goal.note_unknown-requires-clause-noted
+note_unknown-requires-clause-noted g c = c.requires.session.1.noted
 
 pub refuse-requires : goal.refuse-requires
 refuse-requires g c = record { session = (c.requires.session.0, (as-before c.args.floor.now c.requires.session.0 c.args.player.now c.requires.session.1 c.note_unknown.new.player c.in-Err.ensures.same).session) }

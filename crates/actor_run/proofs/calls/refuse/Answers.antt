@@ -1,16 +1,19 @@
 use Rattle.std.proofs.Common.{ap}
-use Rattle.actor_run.proofs.{Ends.as-before-on, Sessions.{can-begin, nothing-to-do, refused-before, refused-noted}}
+use Rattle.actor_run.proofs.{Ends.as-before-on, Sessions.{refused-before, refused-noted, still-free}}
 use Rattle.volap_cell.specs.Values.{ActorValue}
 use Rattle.actor_run.proofs.calls.refuse.Goals as goal
 
 pub note_refused-requires-clause-stands : goal.note_refused-requires-clause-stands
 note_refused-requires-clause-stands g c = c.requires.session.1.stands
 
-pub note_refused-requires-clause-begins : goal.note_refused-requires-clause-begins
-note_refused-requires-clause-begins g c = can-begin c.args.floor.now c.requires.session.0 c.args.player.now c.requires.session.1
+pub note_refused-requires-clause-free : goal.note_refused-requires-clause-free
+note_refused-requires-clause-free g c = c.requires.session.1.free
 
-pub hear-requires-clause-nothing : goal.hear-requires-clause-nothing
-hear-requires-clause-nothing g c = nothing-to-do c.args.floor.now c.requires.session.0 c.args.player.now c.requires.session.1 c.note_refused.new.player c.in-Err.ensures.same
+pub note_refused-requires-clause-noted : goal.note_refused-requires-clause-noted
+note_refused-requires-clause-noted g c = c.requires.session.1.noted
+
+pub hear-requires-clause-free : goal.hear-requires-clause-free
+hear-requires-clause-free g c = still-free c.args.floor.now c.requires.session.0 c.args.player.now c.requires.session.1 c.note_refused.new.player c.in-Err.ensures.same
 
 pub returns-in-Ok-clause-does : goal.returns-in-Ok-clause-does
 returns-in-Ok-clause-does g c server s = refused-noted c.args.floor.now server c.args.player.now c.note_refused.new.player s c.in-Ok.ensures.noted

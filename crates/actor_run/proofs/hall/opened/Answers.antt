@@ -1,6 +1,6 @@
-use Rattle.std.proofs.Common.{IfOk, Err, List, Ok, Result, subst}
+use Rattle.std.proofs.Common.{◌∙◌, IfOk, Err, List, [], ◌∷◌, ◌++◌, Ok, Result, ap, subst}
 use Rattle.actor_run.proofs.Opening.{opened-table}
-use Rattle.actor_run.specs.Halls.{hall_setting}
+use Rattle.actor_run.specs.Halls.{hall_setting, own_role}
 use Rattle.volap_cell.specs.{Filling.{IsOpened, setting_for}, declared.role.Role.Role}
 use Rattle.actor_run.proofs.hall.opened.Goals as goal
 
@@ -19,6 +19,6 @@ pub returns : goal.returns
 returns c =
     let state = c.in_ok-open.field-0 in
     let s = hall_setting c.args.h.now c.args.with.now c.args.roles in
-    let opened : IsOpened s state.cells.items state.actors.items = subst (λ (roles : List Role). IsOpened (setting_for c.args.h.now c.args.with.now roles) state.cells.items state.actors.items) c.in_ok-push.ensures.ok c.in_ok-open.ensures in
+    let opened : IsOpened s state.cells.items state.actors.items = subst (λ (roles : List Role). IsOpened (setting_for c.args.h.now c.args.with.now roles) state.cells.items state.actors.items) (c.in_ok-push.ensures.ok ∙ ap (λ (role : Role). c.args.roles ++ role ∷ []) (c.own_role-own.ensures ∙ ap own_role c.as_slice.ensures)) c.in_ok-open.ensures in
     let e = c.open-2.ensures in
     from-four c.open-2.result e.table e.actors e.seat e.possible (λ r wide here of possible. opened-table s state.cells.items state.actors.items r.0 r.1 r.2.items opened wide here of possible)

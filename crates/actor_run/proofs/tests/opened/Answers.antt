@@ -1,5 +1,5 @@
 use Rattle.std.proofs.{Common.{◌≡◌, ◌∙◌, ℕ, suc, zero, ◌<◌, List, [], ◌∷◌, ◌++◌, length, Some, slice_get, All, refl, sym, subst, arith}, lemmas.List.Elements.{All-cons, All-head, All-nil, All-tail}}
-use Rattle.actor_run.specs.Halls.{IsHallFor, IsSession, hall_setting}
+use Rattle.actor_run.specs.{Halls.{IsHallFor, hall_setting}, Sessions.IsSessionRole}
 use Rattle.dim_hierarchy.specs.Dimension.{Dimension, IsHierarchy}
 use Rattle.row_ledger.specs.declared.settings.Use.{Use}
 use Rattle.volap_cell.specs.{Numbering.IsRoleOf, declared.role.Role.Role}
@@ -7,11 +7,11 @@ use Rattle.volap_cell.specs.declared.role.Role.TheVariants.{Admin, Session}
 use Rattle.actor_run.proofs.tests.opened.Goals as goal
 
 -- the hall's own role stands behind those of sessions
-own-last : (roles : List Role) → All IsSession roles → (a : ℕ) → slice_get (roles ++ Admin ∷ []) a ≡ Some Admin → a ≡ length roles
+own-last : (roles : List Role) → All IsSessionRole roles → (a : ℕ) → slice_get (roles ++ Admin ∷ []) a ≡ Some Admin → a ≡ length roles
 own-last [] all zero at = refl
 own-last [] all (suc a) at = absurd (cc)
-own-last (role ∷ roles) all zero at = (let is = All-head IsSession role roles all in let same = is.1 in absurd (cc))
-own-last (role ∷ roles) all (suc a) at = (let here = own-last roles (All-tail IsSession role roles all) a at in omega arith)
+own-last (role ∷ roles) all zero at = (let is = All-head IsSessionRole role roles all in let same = is.1 in absurd (cc))
+own-last (role ∷ roles) all (suc a) at = (let here = own-last roles (All-tail IsSessionRole role roles all) a at in omega arith)
 
 abbrev with : Use
 with = record { servers = 2; workers = 1; threads = 1; cells = 64 }
@@ -22,7 +22,7 @@ two = Session 0 ∷ Session 1 ∷ []
 two-fit : (h : List Dimension) → 0 < length h → IsHierarchy h → IsHallFor h with two
 two-fit h some valid =
     let s = hall_setting h with two in
-    let sessions : All IsSession two = All-cons IsSession (Session 0) (Session 1 ∷ []) (0, refl) (All-cons IsSession (Session 1) [] (1, refl) (All-nil IsSession)) in
+    let sessions : All IsSessionRole two = All-cons IsSessionRole (Session 0) (Session 1 ∷ []) (0, refl) (All-cons IsSessionRole (Session 1) [] (1, refl) (All-nil IsSessionRole)) in
     record {
       setting = record {
         hierarchy = valid;
@@ -34,8 +34,6 @@ two-fit h some valid =
         admin = λ a b at_a at_b. own-last two sessions a at_a ∙ sym (own-last two sessions b at_b);
       };
       dims = some;
-      one_worker = refl;
-      sessions = sessions;
       few = omega arith;
     }
 

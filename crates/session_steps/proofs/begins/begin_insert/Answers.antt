@@ -25,11 +25,11 @@ make_booked-requires-clause-kept g c q e =
 
 pub there-requires : goal.there-requires
 there-requires g c =
-    ap (λ (a : ActorValue). is_some a.command) (insert-begun (unchanged c.take_image_alone.ensures.took.same) c.requires.begins _ c.args.at _ c.in_ok-make_booked.ensures.booked).actor
+    ap (λ (a : ActorValue). is_some a.command) (insert-begun (unchanged c.take_image_alone.ensures.took.same) c.requires.begins.noted _ c.args.at _ c.in_ok-make_booked.ensures.booked).actor
 
 pub returns-clause-begun : goal.returns-clause-begun
 returns-clause-begun g c =
-    let begun = insert-begun (unchanged c.take_image_alone.ensures.took.same) c.requires.begins _ c.args.at _ c.in_ok-make_booked.ensures.booked in
+    let begun = insert-begun (unchanged c.take_image_alone.ensures.took.same) c.requires.begins.noted _ c.args.at _ c.in_ok-make_booked.ensures.booked in
     let of = began-at _ _ c.make_booked.new.player _ (ap (λ (a : ActorValue). a.command) begun.actor) c.there.ensures in
     subst (λ (m : ℤ). HasBegunInsert c.args.floor.now c.there.result.now.of c.args.at m c.args.player.now c.make_booked.new.player) (to_z-of_z w64 c.args.measures (search rules))
     (subst (λ n. HasBegunInsert c.args.floor.now n c.args.at (to_z w64 (of_z w64 c.args.measures)) c.args.player.now c.make_booked.new.player) (sym of) begun)

@@ -52,12 +52,12 @@ make_booked-requires-clause-kept g c q e =
 pub there-requires : goal.there-requires
 there-requires g c =
     let same = unchanged-on (looked (unchanged c.take_first.ensures.took.same) c.is_empty_at.ensures.same) (unchanged c.take_image.ensures.took.same) in
-    ap (λ (a : ActorValue). is_some a.command) (query-begun same c.requires.begins _ _ c.args.filter c.in-Ok.ensures.booked).actor
+    ap (λ (a : ActorValue). is_some a.command) (query-begun same c.requires.begins.noted _ _ c.args.filter c.in-Ok.ensures.booked).actor
 
 pub returns-in-Ok : goal.returns-in-Ok
 returns-in-Ok g c =
     let same = unchanged-on (looked (unchanged c.take_first.ensures.took.same) c.is_empty_at.ensures.same) (unchanged c.take_image.ensures.took.same) in
-    let begun = query-begun same c.requires.begins _ _ c.args.filter c.in-Ok.ensures.booked in
+    let begun = query-begun same c.requires.begins.noted _ _ c.args.filter c.in-Ok.ensures.booked in
     let of = began-at _ _ c.make_booked.new.player _ (ap (λ (a : ActorValue). a.command) begun.actor) c.there.ensures in
     record { begun = subst (λ n. HasAsked c.args.floor.now n c.args.filter c.args.player.now c.make_booked.new.player) (sym of) begun }
 

@@ -10,7 +10,7 @@ returns-then-is_spent g c = record { emptied = stays-empty c.args.floor.now c.ar
 
 pub take_first-requires-clause-cell : goal.take_first-requires-clause-cell
 take_first-requires-clause-cell g c =
-    subst (λ (y : ℕ). y < cell_count c.args.floor.now.table) (sym c.stock_place.ensures) (stock-there c.args.floor.now c.args.player.now c.parts_prepared.ensures.spares c.requires.nothing.free (sym c.is_spent.ensures ∙ c.if-is_spent.false) c.requires.stands.seated)
+    subst (λ (y : ℕ). y < cell_count c.args.floor.now.table) (sym c.stock_place.ensures) (stock-there c.args.floor.now c.args.player.now c.parts_prepared.ensures.spares c.requires.free (sym c.is_spent.ensures ∙ c.if-is_spent.false) c.requires.stands.seated)
 
 pub make-requires-clause-some : goal.make-requires-clause-some
 make-requires-clause-some g c =
@@ -36,17 +36,17 @@ pub make-requires-clause-asked : goal.make-requires-clause-asked
 make-requires-clause-asked g c =
     let t = c.take_first.ensures in
     let one : HasOne c.args.floor.now c.args.player.now c.take_first.new.player stock_cell 7 = subst (λ (y : ℕ). HasOne c.args.floor.now c.args.player.now c.take_first.new.player y 7) c.stock_place.ensures (record { took = t.took; seated = t.seated; ranks = t.ranks }) in
-    give-asked c.args.floor.now c.args.player.now c.parts_prepared.ensures.spares c.requires.nothing.free (sym c.is_spent.ensures ∙ c.if-is_spent.false) one
+    give-asked c.args.floor.now c.args.player.now c.parts_prepared.ensures.spares c.requires.free (sym c.is_spent.ensures ∙ c.if-is_spent.false) one
 
 pub make-requires-clause-kept : goal.make-requires-clause-kept
 make-requires-clause-kept g c =
     let t = c.take_first.ensures in
     let one : HasOne c.args.floor.now c.args.player.now c.take_first.new.player stock_cell 7 = subst (λ (y : ℕ). HasOne c.args.floor.now c.args.player.now c.take_first.new.player y 7) c.stock_place.ensures (record { took = t.took; seated = t.seated; ranks = t.ranks }) in
-    give-kept c.args.floor.now.hierarchy c.take_first.new.player (one_at stock_cell) (ap (λ (a : ActorValue). a.errand) (same-actor one) ∙ c.requires.nothing.free.errand)
+    give-kept c.args.floor.now.hierarchy c.take_first.new.player (one_at stock_cell) (ap (λ (a : ActorValue). a.errand) (same-actor one) ∙ c.requires.free.errand)
 
 pub returns : goal.returns
 returns g c =
     let t = c.take_first.ensures in
     let one : HasOne c.args.floor.now c.args.player.now c.take_first.new.player stock_cell 7 = subst (λ (y : ℕ). HasOne c.args.floor.now c.args.player.now c.take_first.new.player y 7) c.stock_place.ensures (record { took = t.took; seated = t.seated; ranks = t.ranks }) in
     let made = as-made c.make.result c.make.ensures.made (c.make.ensures.sure (λ i. false)) in
-    record { emptied = one-becomes one made _ (λ (e : stock_cell ≡ ledger_cell). absurd (omega (arith, e))) c.make.ensures.stands (give-makes c.requires.nothing.free one made) }
+    record { emptied = one-becomes one made _ (λ (e : stock_cell ≡ ledger_cell). absurd (omega (arith, e))) c.make.ensures.stands (give-makes c.requires.free one made) }

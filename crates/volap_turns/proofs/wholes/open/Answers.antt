@@ -3,7 +3,7 @@ use Rattle.volap_turns.proofs.Filled.{as-many-actors, as-many-cells, has-ledger,
 use Rattle.volap_turns.proofs.wholes.open.Goals as goal
 
 pub new-requires-clause-valid : goal.new-requires-clause-valid
-new-requires-clause-valid c = (let whole = c.requires.whole in valid-of whole _ _ (items-cells whole _ c.in_ok-all_of.ensures) (items-actors whole _ c.in_ok-actors.ensures))
+new-requires-clause-valid c = (let whole = c.requires.whole in valid-of whole c.requires.idle _ _ (items-cells whole _ c.in_ok-all_of.ensures) (items-actors whole _ c.in_ok-actors.ensures))
 
 pub new-requires-clause-idle : goal.new-requires-clause-idle
 new-requires-clause-idle c = (let whole = c.requires.whole in idle-of whole _ (items-actors whole _ c.in_ok-actors.ensures) c.requires.idle)

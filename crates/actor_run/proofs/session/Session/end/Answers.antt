@@ -1,6 +1,6 @@
 use Rattle.std.proofs.Common.{sym, subst}
 use Rattle.actor_run.specs.{Passes.{IsPassOf, pass_of}, Sessions.{BecomesPass, IsSession, SessionValue, session_of}}
-use Rattle.actor_run.proofs.PassAndSession.{session-made, session-nothing, session-own, session-pass, still-counted, still-nothing}
+use Rattle.actor_run.proofs.PassAndSession.{session-made, session-own, session-pass, still-counted, still-nothing}
 use Rattle.seat_steps.specs.Floors.{Stands}
 use Rattle.seat_steps.specs.declared.floor.Floor.{Floor}
 use Rattle.actor_run.proofs.session.Session.end.Goals as goal
@@ -8,8 +8,8 @@ use Rattle.actor_run.proofs.session.Session.end.Goals as goal
 pub empty_purse-requires-clause-stands : goal.empty_purse-requires-clause-stands
 empty_purse-requires-clause-stands g c = subst (λ (f : Floor). Stands f c.self.inside.player) (sym c.hall.view_is) c.self.invariant.session.stands
 
-pub empty_purse-requires-clause-nothing : goal.empty_purse-requires-clause-nothing
-empty_purse-requires-clause-nothing g c = session-nothing c.self.inside.hall.now c.self.inside.server c.self.inside.player c.self.invariant.session
+pub empty_purse-requires-clause-free : goal.empty_purse-requires-clause-free
+empty_purse-requires-clause-free g c = c.self.invariant.session.free
 
 pub leave-requires-clause-nothing : goal.leave-requires-clause-nothing
 leave-requires-clause-nothing g c =

@@ -1,6 +1,6 @@
 use Rattle.std.proofs.Common.{sym, subst}
 use Rattle.actor_run.specs.{Passes.{IsPassOf, PassValue}, Sessions.{IsPassFor, IsSession, IsSessionRole, session_of}}
-use Rattle.actor_run.proofs.PassAndSession.{come-heard, come-nothing, pass-for, pass-nothing, pass-session, pass-stands}
+use Rattle.actor_run.proofs.PassAndSession.{come-free, come-heard, pass-for, pass-nothing, pass-session, pass-stands}
 use Rattle.seat_steps.specs.declared.floor.Floor.{Floor}
 use Rattle.actor_run.proofs.session.Session.new.Goals as goal
 
@@ -18,10 +18,10 @@ come-requires-clause-nothing g c =
 pub hear-seen-requires-clause-stands : goal.hear-seen-requires-clause-stands
 hear-seen-requires-clause-stands g c = c.come.ensures.come.stands
 
-pub hear-seen-requires-clause-nothing : goal.hear-seen-requires-clause-nothing
-hear-seen-requires-clause-nothing g c =
+pub hear-seen-requires-clause-free : goal.hear-seen-requires-clause-free
+hear-seen-requires-clause-free g c =
     let p = c.pass.inside.player in
-    come-nothing c.hall.inside.floor p c.pass.invariant c.come.new.player c.come.ensures.come (subst (λ (x : PassValue). IsSessionRole x.role) (sym c.pass.view_is) c.requires.role)
+    come-free c.hall.inside.floor p c.pass.invariant c.come.new.player c.come.ensures.come
 
 pub invariant_of-result : goal.invariant_of-result
 invariant_of-result g c =

@@ -7,13 +7,9 @@ use Rattle.core_steps.proofs.notes.NoteStepCellStep.run.Goals as goal
 
 pub returns-in-Ended-clause-told : goal.returns-in-Ended-clause-told
 returns-in-Ended-clause-told c =
-    let x = c.lent-in-Ended.result.now in
-    let value = c.lent-in-Ended.ensures.value in
-    let can = subst (λ (step : NoteStep). note_asks step c.args.h.now (values (held (Some x) c.args.second.now c.args._others.now)) (actor_of c.args.actor.now)) c.in-Ended.is
-    (subst (λ (o : Option Cell). note_asks c.args.self c.args.h.now (values (held o c.args.second.now c.args._others.now)) (actor_of c.args.actor.now)) value c.requires.asked) in
-    let told = noted-ends can.command can.ledger_is c.note_ended.ensures.made.does in
     subst (λ (step : NoteStep). note_tells step (actor_of c.args.actor.now) (values (held c.args.first.now c.args.second.now c.args._others.now)) (values (held (Some c.note_ended.new.ledger) c.args.second.now c.args._others.now))) (sym c.in-Ended.is)
-    (subst (λ (o : Option Cell). note_tells (note.Ended c.in-Ended.how) (actor_of c.args.actor.now) (values (held o c.args.second.now c.args._others.now)) (values (held (Some c.note_ended.new.ledger) c.args.second.now c.args._others.now))) (sym value) told)
+    (subst (λ (o : Option Cell). note_tells (note.Ended c.in-Ended.how) (actor_of c.args.actor.now) (values (held o c.args.second.now c.args._others.now)) (values (held (Some c.note_ended.new.ledger) c.args.second.now c.args._others.now)))
+    (sym c.lent-in-Ended.ensures.value) c.note_ended.ensures.told)
 
 pub returns-in-Left-clause-told : goal.returns-in-Left-clause-told
 returns-in-Left-clause-told c =

@@ -1,5 +1,5 @@
-use Rattle.seeded_run.proofs.Told.{others-law, told-law}
-use Rattle.seeded_run.proofs.laws.steps_tell_so.Goals as goal
+use Rattle.core_told.proofs.Told.{others-law, told-law}
+use Rattle.core_told.proofs.laws.steps_tell_so.Goals as goal
 
 pub returns-clause-told : goal.returns-clause-told
 returns-clause-told c = told-law

@@ -8,9 +8,9 @@ use Rattle.row_ledger.specs.declared.event.Event.TheVariants as event
 use Rattle.row_ledger.specs.declared.class.Class.TheVariants as class_is
 use Rattle.row_ledger.specs.declared.settings.How.TheVariants as how
 use Rattle.script_run.specs.Runs.{ArePulls, HasPulls}
-use Rattle.volap_cell.specs.{Commands.{MayNoteEnd, due_pull, pulled_once, settles_next}, Setting.Setting, Telling.{IsCalledAs, IsProgress}, Values.JobValue, declared.command.Work.Work, declared.role.Role.Role}
+use Rattle.volap_cell.specs.{Commands.{MayNoteEnd, due_pull, once_shown, pulled_once, settles_next}, Setting.Setting, Telling.{IsCalledAs, IsProgress}, Values.JobValue, declared.command.Work.Work, declared.role.Role.Role}
 use Rattle.volap_cell.specs.declared.command.Work.TheVariants as work_is
-use Rattle.seeded_run.specs.{Running.HasPulled, Told.{is_deed, is_plain}}
+use Rattle.core_told.specs.Told.{HasPulled, is_deed, is_plain}
 
 -- Events.
 
@@ -222,6 +222,18 @@ plain-pulled servers work_is.Bare pulled plain = tt
 plain-pulled servers (work_is.Action act) pulled plain = tt
 plain-pulled servers (work_is.Balance b) pulled plain = tt
 plain-pulled servers (work_is.Page subject there shown) pulled plain = tt
+
+pub shown-pulled : (servers : ℕ) (work work_now : Work) (pulled : List ℕ) → once_shown work ≡ Some work_now → HasPulled servers work_now pulled
+shown-pulled servers (work_is.Page subject true false) work_now pulled is = let same : work_is.Page subject true true ≡ work_now = cc in subst (λ x. HasPulled servers x pulled) same tt
+shown-pulled servers (work_is.Page subject true true) work_now pulled is = cc
+shown-pulled servers (work_is.Page subject false shown) work_now pulled is = cc
+shown-pulled servers (work_is.Insert row routed) work_now pulled is = cc
+shown-pulled servers work_is.Query work_now pulled is = cc
+shown-pulled servers (work_is.Sync server did) work_now pulled is = cc
+shown-pulled servers work_is.Bare work_now pulled is = cc
+shown-pulled servers (work_is.Settle pulls) work_now pulled is = cc
+shown-pulled servers (work_is.Action act) work_now pulled is = cc
+shown-pulled servers (work_is.Balance b) work_now pulled is = cc
 
 -- Ends.
 

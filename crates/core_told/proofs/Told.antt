@@ -19,8 +19,7 @@ use Rattle.volap_cell.proofs.{Cells.Numbers.at-ledger, Views.Frames.{AreAt, acto
 use Rattle.volap_cell.specs.{AdminKinds.{DoesFreeze, Finishes, GivesUp, MovesIn, PushesBoth}, Cells.{CellValue, Tag, TheLedger, FreeCell, LedgerCell, StockCell, RegistryCell, ImageCell, DeskCell, MapCell, GateCell, BlockCell, tag_of, ledger_in}, Commands.{EndsBalance, EndsStage, MayNoteEnd, due_pull, server_of}, Ghost.Ghost, ImageKinds.{DoesNote, DoesNoteWith, IsBegun, IsFree, NotesCalled, NotesEnded, OfCalled, OfCalledAsking, OfCount, OfEnded, OfLeft, OfQuery, OfRefused, OfShown, OfUnknown, OfUnrouted, Pushes, doing}, Invariant.InvWith, Kinds.Does, Planning.{job_for, next_job}, Setting.{Setting, ledger_cell}, ShardKinds.{PutsChildren, Unpins}, Steps.{Step, history_in}, TreeKinds.{AreBehind, AreFilled, IsTailIf, most_behind}, Values.{ActorValue, ErrandValue, TaskValue, OfRow, Unread, Read, JobValue, StageValue, IsCalled, IsDeclined, IsFrozen, Collects, Builds}, View.view, Working.{IsJobOf, begun_job, frozen_in}, World.{World, Change, Agrees, after, put}, declared.command.Balance.Balance, declared.command.Command.Command as OpenCommand, declared.command.Work.Work, declared.kind.Kind.Kind, declared.role.Role.Role, declared.role.Role.TheVariants.{Admin, Session}}
 use Rattle.volap_cell.specs.declared.command.Work.TheVariants as work_is
 use Rattle.volap_cell.specs.declared.kind.Kind.TheVariants as kind
-use Rattle.core_due.specs.Due.{does_nothing}
-use Rattle.seeded_run.specs.{Running.{HasPulled, is_closing_work}, Told.{GoesFurther, IsEnd, OfBeginning, OfDeed, OfEnd, OfNothing, OfPage, OfPull, OpensCommand, OpensNone, OpensOne, OthersLaw, TellsNothing, Told, ToldLaw, is_deed, is_of_part, is_plain}}
+use Rattle.core_told.specs.Told.{GoesFurther, HasPulled, IsEnd, OfBeginning, OfDeed, OfEnd, OfNothing, OfPage, OfPull, OpensCommand, OpensNone, OpensOne, OthersLaw, TellsNothing, Told, ToldLaw, is_closing_work, is_deed, is_of_part, is_plain}
 
 -- The ledger's cell.
 
@@ -612,20 +611,18 @@ is-made s k n w now g_now i_now g i step = record { agrees = step.agrees; tag = 
 pub told-law : ToldLaw
 told-law s k n w now g g_now i i_now step = subst (Told s k n w) (sym step.now_is) (told-of s n w g i k step.changes step.actor (is-made s k n w now g_now i_now g i step) step.does)
 
--- where a cell is used again nothing is told, and its actor has to do what it had
+-- where a cell is used again nothing is told
 pub reuse-tells : (s : Setting) (n : ℕ) (w now : World) (g g_now : Ghost) → InvWith s (view s w) g → InvWith s (view s now) g_now → Step s kind.Reuse n w now → TellsNothing n w now
 reuse-tells s n w now g g_now i i_now step =
     subst (TellsNothing n w) (sym step.now_is) (reuses s n w g i step.changes step.actor (is-made s kind.Reuse n w now g_now i_now g i step) step.does)
 
-pub reuse-keeps : (s : Setting) (n : ℕ) (w now : World) → Step s kind.Reuse n w now → does_nothing (now.actors n) ≡ does_nothing (w.actors n)
-reuse-keeps s n w now step = ap (λ (x : World). does_nothing (x.actors n)) step.now_is ∙ ap does_nothing (actor-at w.actors n step.actor) ∙ by step.changes step.actor step.does
-  where
-    by : (cs : List Change) (b : ActorValue) → Does s.hierarchy kind.Reuse cs (w.actors n) b → does_nothing b ≡ does_nothing (w.actors n)
-    by [] b d = absurd d
-    by (c0 ∷ []) b d = absurd d
-    by (x ∷ c ∷ []) b d = ap does_nothing d.actor_is
-    by (x ∷ y ∷ c ∷ []) b d = ap does_nothing d.actor_is
-    by (c0 ∷ c1 ∷ c2 ∷ c3 ∷ more) b d = absurd d
-
 pub others-law : OthersLaw
 others-law s k n w now a step apart = ap (λ (x : World). x.actors a) step.now_is ∙ actor-off w.actors n step.actor a apart
+
+-- An actor's command.
+
+pub doing-is : (o : Option OpenCommand) (c : OpenCommand) (of : ℕ) (work : Work) → o ≡ Some c → o ≡ doing of work → (c.of ≡ of) × (c.work ≡ work)
+doing-is o c of work x y = (cc, cc)
+
+pub none-some : {X : Type 0} (o : Option OpenCommand) (c : OpenCommand) → o ≡ None → o ≡ Some c → X
+none-some o c x y = cc

@@ -1,13 +1,38 @@
 -- What one step tells the history, and what becomes of its actor's command.
-use Rattle.std.specs.Prelude.{ℕ, ◌≡◌, ◌++◌, ◌⊎◌, Bool, true, false, List, [], ◌∷◌, Option, Some, None, length}
+use Rattle.std.specs.Prelude.{ℕ, ◌≡◌, ◌++◌, ◌⊎◌, ⊤, Bool, true, false, List, [], ◌∷◌, Option, Some, None, length, take}
 use Rattle.describing_set.specs.declared.listing.Spot.{Spot}
-use Rattle.row_ledger.specs.{Classes.class_of, Past.{end_in, ends_itself, session_in}, declared.event.Event.Event, declared.page.Page.Page, declared.settings.How.How}
+use Rattle.row_ledger.specs.{Classes.class_of, Past.{end_in, ends_itself, session_in}, Settled.settle_pulls, declared.event.Event.Event, declared.page.Page.Page, declared.settings.How.How}
 use Rattle.row_ledger.specs.declared.event.Event.TheVariants as event
 use Rattle.script_run.specs.Phases.{is_closing}
 use Rattle.volap_cell.specs.{Commands.{MayNoteEnd, due_pull, once_shown, pulled_once}, Ghost.Ghost, ImageKinds.{IsFree, doing}, Invariant.InvWith, Setting.Setting, Steps.{Step, history_in}, View.view, World.World, declared.command.Command.Command as OpenCommand, declared.command.Work.Work, declared.kind.Kind.Kind}
 use Rattle.volap_cell.specs.declared.command.Work.TheVariants as work_is
 use Rattle.volap_cell.specs.declared.kind.Kind.TheVariants as kind
-use Rattle.seeded_run.specs.Running.{HasPulled, is_closing_work}
+
+-- Work.
+
+-- whether an open command closes its phase
+abbrev pub is_closing_work : Work → Bool
+is_closing_work (work_is.Settle pulls) = true
+is_closing_work work_is.Bare = true
+is_closing_work (work_is.Page subject there shown) = true
+is_closing_work _ = false
+
+-- the servers of the pulls since a sync or a settle began
+abbrev pub HasPulled : ℕ → Work → List ℕ → Type 0
+HasPulled servers (work_is.Sync server false) pulled = pulled ≡ []
+HasPulled servers (work_is.Sync server true) pulled = pulled ≡ server ∷ []
+HasPulled servers (work_is.Settle pulls) pulled = pulled ≡ take pulls (settle_pulls servers)
+HasPulled servers work pulled = ⊤
+
+-- a command that neither pulls nor closes its phase
+abbrev pub is_plain : Work → Bool
+is_plain (work_is.Insert row routed) = true
+is_plain work_is.Query = true
+is_plain (work_is.Action x) = true
+is_plain (work_is.Balance b) = true
+is_plain _ = false
+
+-- Steps.
 
 -- Kinds that go on with a part, or with a purse; the look-up; and the one that uses cells again. None of them tells the history anything.
 abbrev pub is_of_part : Kind → Bool
@@ -27,15 +52,7 @@ is_of_part kind.FinishPart = true
 is_of_part kind.Reuse = true
 is_of_part _ = false
 
--- a command that neither pulls nor closes its phase
-abbrev pub is_plain : Work → Bool
-is_plain (work_is.Insert row routed) = true
-is_plain work_is.Query = true
-is_plain (work_is.Action x) = true
-is_plain (work_is.Balance b) = true
-is_plain _ = false
-
--- such a command goes on
+-- a command that neither pulls nor closes its phase goes on
 pub record GoesFurther (before now : Option OpenCommand) : Type 0 where
   pub of : ℕ
   pub work : Work

@@ -1,0 +1,3 @@
+pub mod AtAction
+pub mod CallsDue
+pub mod CallsMade

@@ -1,0 +1,3 @@
+pub mod Told
+pub mod Pulled
+pub mod Pulling

@@ -1,0 +1,7 @@
+//! What one step of the core tells the history, and how far open commands have pulled: laws of any two states with a
+//! step between them.
+#![tactic(auto)]
+
+mod laws;
+
+pub use laws::{opening_has_pulled, pulls_go_on, steps_tell_so};

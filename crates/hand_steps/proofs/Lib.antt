@@ -1,0 +1,2 @@
+pub mod AtDesks
+pub mod Served
