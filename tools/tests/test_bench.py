@@ -94,6 +94,22 @@ class Bench(unittest.TestCase):
         self.assertTrue(growth.line(8, (100, 40), (50, 16), "ms").endswith("2.50 <- more than 2.3 times"))
         self.assertFalse(growth.line(8, (10, 5), (1, 1), "ms").endswith("times"))
 
+    def test_inserts_of_sessions_are_timed_where_each_is_acknowledged(self):
+        text = '#!/bin/sh\nsleep 0.2\ngrep -c ^insert\n'
+        put(self.folder, {"program": text, "step": text, "wrong": "#!/bin/sh\nsleep 0.2\necho 29\n"})
+        paths = {name: os.path.join(self.folder, name) for name in ("program", "step", "wrong")}
+        for path in paths.values():
+            os.chmod(path, 0o755)
+        hall = [sys.executable, os.path.join(BENCH, "hall.py")]
+        told = ran_command([*hall, paths["program"], "30", "--volap", paths["step"]], BENCH)
+        self.assertEqual((told.status, told.err), (0, ""))
+        self.assertEqual(
+            [line.split(" | ")[0] for line in told.out.split("\n")],
+            ["| inserts: 30", "|---|---|---|---|", "| volap step", "| 1 session", "| 2 sessions", "| 4 sessions", ""])
+        told = ran_command([*hall, paths["wrong"], "30", "--volap", paths["step"]], BENCH)
+        self.assertEqual(told.status, 1)
+        self.assertRegex(told.err, "^hall: .* 1 tells of other than 30 inserts\n$")
+
     def test_scripts_of_growth_have_no_bad_record(self):
         sys.path.insert(0, BENCH)
         self.addCleanup(sys.path.remove, BENCH)

@@ -1,5 +1,5 @@
 -- How what a session has seen is put together from one part of a call to the next.
-use Rattle.std.proofs.Common.{◌≡◌, ◌∙◌, ℕ, ◌≤◌, List, [], ◌∷◌, ◌++◌, length, Some, inl, inr, sym, ap, subst, arith, length-append}
+use Rattle.std.proofs.Common.{◌≡◌, ◌∙◌, ℕ, ◌≤◌, List, [], ◌∷◌, ◌++◌, length, Some, Result, Ok, Err, sym, ap, subst, arith, length-append}
 use Rattle.actor_run.specs.{Doing.HasRefused, Sessions.{BeganNothing, Began, GoesOn, IsOneEvent, SessionValue}}
 use Rattle.row_ledger.specs.{Past.{event_at, session_in}, declared.event.Event.Event}
 use Rattle.row_ledger.specs.declared.event.Event.TheVariants.{Refused}
@@ -44,6 +44,6 @@ module _ (was mid now : SessionValue) (first : GoesOn was mid) where
     }
 
     -- it was refused after a time in which none began
-    pub refused-behind : HasRefused mid now → HasRefused was now
-    refused-behind (inl none) = inl (subst (λ (n : ℕ). begins_of now.seen n ≡ begins_of mid.seen n) number none ∙ nothing)
-    refused-behind (inr one) = inr (subst (λ (n : ℕ). IsOneEvent (Refused n) was now) number (one.0, (one.1.0, began-behind one.1.0 (Refused mid.number) one.1.1)))
+    pub refused-behind : {T E : Type 0} (r : Result T E) → HasRefused r mid now → HasRefused r was now
+    refused-behind (Ok u) one = subst (λ (n : ℕ). IsOneEvent (Refused n) was now) number (one.0, (one.1.0, began-behind one.1.0 (Refused mid.number) one.1.1))
+    refused-behind (Err e) none = subst (λ (n : ℕ). begins_of now.seen n ≡ begins_of mid.seen n) number none ∙ nothing

@@ -1,14 +1,16 @@
 -- How a session's insert and its query come to their ends.
-use Rattle.std.proofs.Common.{◌≡◌, ◌∙◌, ℕ, ℤ, ◌≤◌, ◌⊎◌, false, true, List, [], ◌∷◌, length, is_none, position, Some, inl, inr, refl, sym, ap, subst, arith}
-use Rattle.actor_run.specs.{Doing.{HasDone, HasRefused, HasTold}, Driving.{EndsSince, IsOpenSince}, Sessions.{Began, BeganInsert, BeganNothing, BeganQuery, EndsInsert, EndsQuery, IsNewest, IsOneEvent, IsSession, SessionValue, session_of}}
+use Rattle.std.proofs.lemmas.Bool.{false≢true}
+use Rattle.std.proofs.Common.{◌≡◌, ◌∙◌, ℕ, ℤ, ◌≤◌, false, true, List, [], ◌∷◌, length, is_none, position, Some, Bool, Result, Ok, Err, IsErr, inl, inr, refl, sym, ap, subst, arith}
+use Rattle.actor_run.specs.{Doing.{HasDone, HasRefused, HasTold}, Driving.{EndsSince, IsOpenSince}, Sessions.{Began, BeganInsert, BeganNothing, BeganQuery, EndedInsert, EndedQuery, EndsInsert, EndsQuery, TriesInsert, TriesQuery, IsNewest, IsOneEvent, IsSession, SessionValue, session_of}}
 use Rattle.actor_run.specs.declared.session.Asked.TheVariants as asked
 use Rattle.actor_run.specs.declared.session.Inserted.TheVariants as inserted
+use Rattle.actor_run.specs.declared.session.{Asked.{Asked as AskedAnswer}, Inserted.Inserted}
 use Rattle.actor_run.proofs.{Chains.extends-length, Opened.just-open, Sessions.{ended-since, number-is, server-is}}
 use Rattle.core_image.specs.Told.{asked_by, begun_by}
 use Rattle.dim_hierarchy.specs.{Filter.{IsFilterNamed, picks}, Row.{IsCoordNamed, leaves}, declared.{filter.{NamePick.NamePick, Pick.Pick}, row.Coord.Coord}}
 use Rattle.measure_agg.specs.Aggregate.{Aggregate}
 use Rattle.row_ledger.specs.declared.event.Event.{Event}
-use Rattle.row_ledger.specs.declared.event.Event.TheVariants.{Asked, Begun, Refused}
+use Rattle.row_ledger.specs.declared.event.Event.TheVariants.{Asked, Begun, Refused, Unknown}
 use Rattle.script_run.specs.Places.{begins_of}
 use Rattle.seat_steps.specs.{Booked.IsAsBefore, Floors.Stands, declared.floor.{Floor.Floor, Player.Player}}
 use Rattle.session_steps.specs.{Begins.{CanBegin, HasAsked, HasBegunInsert, row_at}, declared.commands.End.End}
@@ -84,17 +86,17 @@ module _ (f : Floor) (server : ℕ) (was mid : Player) (s : IsSession f server w
           (λ i. Begun (number-is f server was s i) (server-is f server was s i) (row_at (sym has.position i) at measures)) refl insert has.actor r now ended in
           record { session = did.session; goes = did.goes; ends = (record { at = at; named = named; began = did.ends.0 }, did.ends.1) }
 
-      pub insert-acked : EndsSince f end.Acked mid now → HasDone f (EndsInsert (inserted.Ok of) names measures) server was now
+      pub insert-acked : EndsSince f end.Acked mid now → HasDone f (EndedInsert (inserted.Ok of) names measures) server was now
       insert-acked ended =
           let did = began-insert end.Acked ended in
           let is = (ended.ends of insert insert-command).1 in
           record { session = did.session; goes = did.goes; ends = (did.ends.0, (is.0, subst (λ (e : Event). IsNewest e (session_of f server now)) is.1 did.ends.1)) }
 
-      pub insert-failed : EndsSince f end.Failed mid now → HasDone f (EndsInsert inserted.NoMemory names measures) server was now
+      pub insert-failed : EndsSince f end.Failed mid now → HasDone f (EndedInsert inserted.NoMemory names measures) server was now
       insert-failed ended =
           let did = began-insert end.Failed ended in
           let is = (ended.ends of insert insert-command).1 in
-          record { session = did.session; goes = did.goes; ends = inr (inr (of, did.ends.0, subst (λ (e : Event). IsNewest e (session_of f server now)) is did.ends.1)) }
+          record { session = did.session; goes = did.goes; ends = inr (of, did.ends.0, subst (λ (e : Event). IsNewest e (session_of f server now)) is did.ends.1) }
 
   module _ (filter : List Pick) (has : HasAsked f of filter was mid) where
     query-command : (actor_of mid.actor).command ≡ doing of work_is.Query
@@ -121,34 +123,60 @@ module _ (f : Floor) (server : ℕ) (was mid : Player) (s : IsSession f server w
           let did = query-ended r now ended in
           record { session = did.session; goes = did.goes; ends = (record { filter = filter; named = named; began = did.ends.0 }, did.ends.1) }
 
-      pub query-answered : (agg : Aggregate) → EndsSince f (end.Answered agg) mid now → HasDone f (EndsQuery (asked.Answer of agg) names) server was now
+      pub query-answered : (agg : Aggregate) → EndsSince f (end.Answered agg) mid now → HasDone f (EndedQuery (asked.Answer of agg) names) server was now
       query-answered agg ended =
           let did = began-query (end.Answered agg) ended in
           let is = (ended.ends of work_is.Query query-command).1 in
           record { session = did.session; goes = did.goes; ends = (did.ends.0, subst (λ (e : Event). IsNewest e (session_of f server now)) is did.ends.1) }
 
-      pub query-failed : EndsSince f end.Failed mid now → HasDone f (EndsQuery asked.NoMemory names) server was now
+      pub query-failed : EndsSince f end.Failed mid now → HasDone f (EndedQuery asked.NoMemory names) server was now
       query-failed ended =
           let did = began-query end.Failed ended in
           let is = (ended.ends of work_is.Query query-command).1 in
-          record { session = did.session; goes = did.goes; ends = inr (inr (of, did.ends.0, subst (λ (e : Event). IsNewest e (session_of f server now)) is did.ends.1)) }
+          record { session = did.session; goes = did.goes; ends = inr (of, did.ends.0, subst (λ (e : Event). IsNewest e (session_of f server now)) is did.ends.1) }
+
+-- where something of it stands in the history, that is how it ends
+
+pub ended-insert : (r : Inserted) (names : List (List ℕ)) (measures : ℤ) (x y : SessionValue) → EndedInsert r names measures x y → EndsInsert r names measures x y
+ended-insert (inserted.Ok of) names measures x y ended = ended
+ended-insert (inserted.Unknown dim) names measures x y ended = ended
+ended-insert inserted.NoMemory names measures x y ended = inr ended
+
+pub ended-query : (r : AskedAnswer) (names : List NamePick) (x y : SessionValue) → EndedQuery r names x y → EndsQuery r names x y
+ended-query (asked.Answer of agg) names x y ended = ended
+ended-query (asked.Unknown dim) names x y ended = ended
+ended-query asked.NoMemory names x y ended = inr ended
 
 -- Calls that begin nothing.
 
--- it was refused, or ends in another way
-refused-or : {P : Type 0} (x y : SessionValue) → HasRefused x y → BeganNothing x y ⊎ IsOneEvent (Refused x.number) x y ⊎ P
-refused-or x y (inl none) = inl none
-refused-or x y (inr one) = inr (inl one)
-
 module _ (f : Floor) (server : ℕ) (was now : Player) where
-  pub insert-refused : (names : List (List ℕ)) (measures : ℤ) → HasDone f HasRefused server was now → HasDone f (EndsInsert inserted.NoMemory names measures) server was now
-  insert-refused names measures did = record { session = did.session; goes = did.goes; ends = refused-or (session_of f server was) (session_of f server now) did.ends }
+  pub insert-refused : (names : List (List ℕ)) (measures : ℤ) → HasDone f (λ x y. IsOneEvent (Refused x.number) x y) server was now → HasDone f (EndedInsert inserted.NoMemory names measures) server was now
+  insert-refused names measures did = record { session = did.session; goes = did.goes; ends = inl did.ends }
 
-  pub query-refused : (names : List NamePick) → HasDone f HasRefused server was now → HasDone f (EndsQuery asked.NoMemory names) server was now
-  query-refused names did = record { session = did.session; goes = did.goes; ends = refused-or (session_of f server was) (session_of f server now) did.ends }
+  pub query-refused : (names : List NamePick) → HasDone f (λ x y. IsOneEvent (Refused x.number) x y) server was now → HasDone f (EndedQuery asked.NoMemory names) server was now
+  query-refused names did = record { session = did.session; goes = did.goes; ends = inl did.ends }
 
-  pub insert-unknown : (names : List (List ℕ)) (measures : ℤ) (dim : ℕ) → position is_none (leaves f.hierarchy names) ≡ Some dim → HasDone f (HasTold true dim) server was now → HasDone f (EndsInsert (inserted.Unknown dim) names measures) server was now
+  -- nothing of it stands in the history
+
+  pub insert-nothing : {E : Type 0} (r : Result Inserted E) → IsErr r → (names : List (List ℕ)) (measures : ℤ) → HasDone f BeganNothing server was now → HasDone f (TriesInsert r names measures) server was now
+  insert-nothing (Ok x) is names measures did = absurd (false≢true is)
+  insert-nothing (Err e) is names measures did = record { session = did.session; goes = did.goes; ends = did.ends }
+
+  pub query-nothing : {E : Type 0} (r : Result AskedAnswer E) → IsErr r → (names : List NamePick) → HasDone f BeganNothing server was now → HasDone f (TriesQuery r names) server was now
+  query-nothing (Ok x) is names did = absurd (false≢true is)
+  query-nothing (Err e) is names did = record { session = did.session; goes = did.goes; ends = did.ends }
+
+  pub told-nothing : {E : Type 0} (r : Result Bool E) → IsErr r → (dim : ℕ) → HasDone f BeganNothing server was now → HasDone f (HasTold r dim) server was now
+  told-nothing (Ok x) is dim did = absurd (false≢true is)
+  told-nothing (Err e) is dim did = record { session = did.session; goes = did.goes; ends = did.ends }
+
+  -- whether that is noted or not
+  pub query-stopped : {T E : Type 0} (r : Result T E) (names : List NamePick) → HasDone f (HasRefused r) server was now → HasDone f (EndsQuery asked.NoMemory names) server was now
+  query-stopped (Ok u) names did = record { session = did.session; goes = did.goes; ends = inr (inl did.ends) }
+  query-stopped (Err e) names did = record { session = did.session; goes = did.goes; ends = inl did.ends }
+
+  pub insert-unknown : (names : List (List ℕ)) (measures : ℤ) (dim : ℕ) → position is_none (leaves f.hierarchy names) ≡ Some dim → HasDone f (λ x y. IsOneEvent (Unknown x.number x.server dim) x y) server was now → HasDone f (EndedInsert (inserted.Unknown dim) names measures) server was now
   insert-unknown names measures dim at did = record { session = did.session; goes = did.goes; ends = (at, did.ends) }
 
-  pub query-unknown : (names : List NamePick) (dim : ℕ) → position is_none (picks f.hierarchy names) ≡ Some dim → HasDone f (HasTold true dim) server was now → HasDone f (EndsQuery (asked.Unknown dim) names) server was now
+  pub query-unknown : (names : List NamePick) (dim : ℕ) → position is_none (picks f.hierarchy names) ≡ Some dim → HasDone f (λ x y. IsOneEvent (Unknown x.number x.server dim) x y) server was now → HasDone f (EndedQuery (asked.Unknown dim) names) server was now
   query-unknown names dim at did = record { session = did.session; goes = did.goes; ends = (at, did.ends) }

@@ -164,6 +164,7 @@ module _ {s : SeatValue Cell Actor Event} {own : Actor} {actors : List (Option A
     each = each-in;
     beyond = λ a lt. (let b = below in else-in a (λ e. omega arith) ∙ are.beyond a (omega arith));
     right = right-now;
+    admin = are.admin;
   })
 
   -- the place is counted no more

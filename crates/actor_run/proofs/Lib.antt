@@ -9,9 +9,11 @@ pub mod Chains
 pub mod Sessions
 pub mod Opened
 pub mod Ends
+pub mod Pulled
 pub mod Unknown
 pub mod CursorOpen
 pub mod CursorSteps
 pub mod Measured
 pub mod TwoSessions
 pub mod Sent
+pub mod Gathered

@@ -1,11 +1,12 @@
 -- A hall opens: all passes are in, and have seen the opening.
-use Rattle.std.proofs.Common.{◌≡◌, ◌∙◌, ℕ, ◌+◌, ◌<◌, ◌^◌, false, List, [], ◌∷◌, ◌++◌, length, Option, inl, inr, refl, sym, ap, subst, arith, length-append}
+use Rattle.std.proofs.Common.{◌≡◌, ◌∙◌, ℕ, ◌+◌, ◌<◌, ◌^◌, suc, Bool, false, if◌then◌else◌, List, [], ◌∷◌, ◌++◌, length, slice_get, Option, Some, inl, inr, refl, sym, ap, subst, arith, length-append}
+use Rattle.std.specs.List.{list_any}
 use mathlib.Core.Option as maybe
 use mathlib.Core.Option.{none, some}
 use lib.ListN.{get_elem?}
 use Rattle.atomic_table.specs.Seated.{TableId}
 use Rattle.atomic_table.proofs.Lists.{at_last, at_longer}
-use Rattle.actor_run.specs.{Halls.{HasOpened, IsHallFor, hall_setting, own_role}, Opened.IsOpenedTable, Passes.{ArePasses, IsAt, IsIn, passes_of}}
+use Rattle.actor_run.specs.{Halls.{HasOpened, IsHallFor, hall_setting, is_admin, own_role}, Opened.IsOpenedTable, Passes.{ArePasses, HasAdmin, IsAt, IsIn, passes_of}}
 use Rattle.actor_run.proofs.{Missing.all-in, Seated.{right-whole, setting-of}}
 use Rattle.dim_hierarchy.specs.Dimension.{Dimension}
 use Rattle.row_ledger.specs.{Kept.IsOpeningHistory, Right.{EachEvent, IsFirstPull, IsRight}, Site.Site, declared.event.Event.Event, declared.event.Event.TheVariants.Synced, declared.settings.Use.Use}
@@ -13,7 +14,7 @@ use Rattle.script_run.specs.Places.{begins_in, begins_of}
 use Rattle.script_run.proofs.PlaceFacts.{begins_of-other}
 use Rattle.turn_table.specs.{Numbered.value_of, Seat.{SeatValue, cell_count}, Views.{HasAll, first_view, seen_of}}
 use Rattle.turn_table.proofs.{Numbered.{below_length, some_or_none, there}, Opened.{numbered_find, numbered_own}}
-use Rattle.volap_cell.specs.{Cells.{CellValue, ledger_in}, Filling.IsOpened, Opening.IsFresh, Setting.{Setting, actor_count, ledger_cell, site_in}, Values.{ActorValue, actor_of}, declared.actor.Actor.Actor, declared.cell.Cell.Cell, declared.role.Role.Role}
+use Rattle.volap_cell.specs.{Cells.{CellValue, ledger_in}, Filling.IsOpened, Opening.IsFresh, Setting.{Setting, actor_count, ledger_cell, site_in}, Values.{ActorValue, actor_of}, declared.actor.Actor.Actor, declared.cell.Cell.Cell, declared.role.{Role.Role, Role.TheVariants.{Admin, Hand, Puller, Session}}}
 use Rattle.volap_turns.specs.{Rule.{all_there, history_of}, Wholes.CanBe, Worlds.{IsWorld, at-place, is-world, long}}
 
 abbrev S : Type 0
@@ -77,8 +78,8 @@ module _ {s : Setting} {t : TableId} {seat : S} (xs : List Actor) (own : Actor) 
   is-right : IsRight (site_in (actor_of own).setting) seat.view.seen
   is-right = subst (λ (z : Setting). IsRight (site_in z) seat.view.seen) (sym (setting-of table.possible (length xs) own (has (length xs) own at-own))) (right-whole table.possible all-here)
 
-  pub are-passes : length xs + 1 < 2 ^ 16 → ArePasses seat own (all_there xs)
-  are-passes few = (let l = long xs in let e = table.seat_is in record {
+  pub are-passes : length xs + 1 < 2 ^ 16 → HasAdmin (actor_of own).setting → ArePasses seat own (all_there xs)
+  are-passes few admin = (let l = long xs in let e = table.seat_is in record {
     home = ap (λ (z : S). z.lifted) e;
     bare = ap (λ (z : S). z.ranks) e;
     empty = ap (λ (z : S). z.view.held) e;
@@ -93,6 +94,7 @@ module _ {s : Setting} {t : TableId} {seat : S} (xs : List Actor) (own : Actor) 
         subst (λ (o : Option Actor). IsAt (actor_of own).setting seat a o) (sym (at-place xs a it.0 it.1)) (is-in a it.0 (at_longer xs (own ∷ []) a it.0 it.1)));
     beyond = λ a lt. none-beyond a (omega arith);
     right = is-right;
+    admin = admin;
   })
 
   -- the history that was seen is that of the opening
@@ -111,6 +113,18 @@ module _ {s : Setting} {t : TableId} {seat : S} (xs : List Actor) (own : Actor) 
   pub pulls-seen : length seat.view.seen ≡ s.servers
   pulls-seen = ap (λ (h : List Event). length h) seen-is ∙ table.opened.opening.all_pulled
 
+-- One of the roles, with the hall's own behind them, is the administrator.
+
+admin-in : (roles : List Role) (own : Role) → (list_any is_admin roles ≡ false → own ≡ Admin) → (k : ℕ) × (slice_get (roles ++ own ∷ []) k ≡ Some Admin)
+admin-in [] own f = (0, ap Some (f refl))
+admin-in (Admin ∷ roles) own f = (0, refl)
+admin-in (Puller ∷ roles) own f = (let it = admin-in roles own f in (suc it.0, it.1))
+admin-in (Session server ∷ roles) own f = (let it = admin-in roles own f in (suc it.0, it.1))
+admin-in (Hand worker ∷ roles) own f = (let it = admin-in roles own f in (suc it.0, it.1))
+
+pub hall-admin : (h : List Dimension) (with : Use) (roles : List Role) → HasAdmin (hall_setting h with roles)
+hall-admin h with roles = admin-in roles (own_role roles) (λ e. ap (λ (b : Bool). if b then Puller else Admin) e)
+
 -- What is opened is a hall and its passes.
 module _ {h : List Dimension} {with : Use} {roles : List Role} {t : TableId} {seat : S} {ys : List Actor} (xs : List Actor) (own : Actor) {places : List (Option Actor)} (fits : IsHallFor h with roles)
     (table : IsOpenedTable (hall_setting h with roles) t seat ys) (last : ys ≡ xs ++ own ∷ []) (placed : places ≡ all_there xs) where
@@ -121,7 +135,7 @@ module _ {h : List Dimension} {with : Use} {roles : List Role} {t : TableId} {se
   few = (let count = ending.opened.count in let l = fits.few in omega (arith, count, long (xs ++ own ∷ []), length-append xs (own ∷ []), length-append roles (own_role roles ∷ [])))
 
   pub are-opened : ArePasses seat own places
-  are-opened = subst (λ (l : List (Option Actor)). ArePasses seat own l) (sym placed) (are-passes xs own ending few)
+  are-opened = subst (λ (l : List (Option Actor)). ArePasses seat own l) (sym placed) (are-passes xs own ending few (subst HasAdmin (sym (about xs own ending)) (hall-admin h with roles)))
 
   pub has-opened : HasOpened h with roles (record { hierarchy = h; with = with; table = t }) (passes_of seat own places)
   has-opened = subst (λ (l : List (Option Actor)). HasOpened h with roles (record { hierarchy = h; with = with; table = t }) (passes_of seat own l)) (sym placed) (record {

@@ -87,7 +87,7 @@ actor_send = declared_send actor.the_type (
   ),
 )
 
-player_send : IsSend player.the_row
+pub player_send : IsSend player.the_row
 player_send = declared_send player.the_type (search sendable, (actor_send, (search (sendable, seat.the_send, cell.the_send), tt)))
 
 inside_send : IsSend pass_inside.the_row

@@ -1,6 +1,6 @@
 -- What the steps of a session at its seat make of it.
-use Rattle.std.proofs.Common.{◌≡◌, ◌∙◌, ℕ, ◌<◌, ◌≤◌, ◌^◌, true, List, [], ◌∷◌, ◌++◌, length, Some, None, inl, inr, refl, sym, ap, subst, arith}
-use Rattle.actor_run.specs.{Doing.{HasDone, HasRefused, HasTold}, Driving.EndsSince, Sessions.{BeganNothing, Began, IsNewest, IsOneEvent, IsSession, SessionValue, session_of}}
+use Rattle.std.proofs.Common.{◌≡◌, ◌∙◌, ℕ, ◌<◌, ◌≤◌, ◌^◌, List, [], ◌∷◌, ◌++◌, length, Some, None, Result, refl, sym, ap, subst, arith}
+use Rattle.actor_run.specs.{Doing.{HasDone, HasRefused}, Driving.EndsSince, Sessions.{BeganNothing, Began, IsNewest, IsOneEvent, IsSession, SessionValue, session_of}}
 use Rattle.actor_run.proofs.Chains.{began, extends-length, goes-on, refused-behind}
 use Rattle.core_image.specs.Told.{refused_by, unknown_by}
 use Rattle.row_ledger.specs.{Past.session_in, Right.IsRight, Site.{Site, site_of}, declared.event.Event.Event}
@@ -33,7 +33,7 @@ module _ (f : Floor) (server : ℕ) (was : Player) (s : IsSession f server was) 
 
   -- the actor is the same but for what it has noted and its rooms
   abbrev pub IsBut : ActorValue → Type 0
-  IsBut b = b ≡ record a { seen = b.seen; purse = b.purse; boxes = b.boxes }
+  IsBut b = b ≡ record a { seen = b.seen; purse = b.purse; boxes = b.boxes; gone_gates = b.gone_gates }
 
   -- Behind steps that leave it so, the session is one as before.
   module _ (now : Player) (stands : Stands f now) (number : now.number ≡ was.number) (same : IsBut (actor_of now.actor)) (noted : (actor_of now.actor).seen ≤ length now.seat.view.seen)
@@ -62,7 +62,7 @@ module _ (f : Floor) (server : ℕ) (was : Player) (s : IsSession f server was) 
     site : site_in (actor_of now.actor).setting ≡ site_of f.with f.hierarchy
     site = λ i. record { hierarchy = stands.seated.holds.one.about i; servers = stands.seated.servers i; workers = stands.seated.workers i }
 
-    done : (Ends : SessionValue → SessionValue → Type 0) → Ends as_value (session_of f server now) → HasDone f Ends server was now
+    pub done : (Ends : SessionValue → SessionValue → Type 0) → Ends as_value (session_of f server now) → HasDone f Ends server was now
     done Ends ends = record {
       session = still-session;
       goes = record {
@@ -126,15 +126,12 @@ module _ (f : Floor) (server : ℕ) (was : Player) (s : IsSession f server was) 
 -- Notes.
 
 module _ (f : Floor) (server : ℕ) (was now : Player) (s : IsSession f server was) where
-  pub refused-noted : HasNoted f refused_by was now → HasDone f HasRefused server was now
+  pub refused-noted : HasNoted f refused_by was now → HasDone f (λ x y. IsOneEvent (Refused x.number) x y) server was now
   refused-noted noted =
       let did = noted-one f server was s refused_by now noted.pushed (length noted.pushed.older) refl (Refused was.number) (ap (λ (n : ℕ). Refused n) (number-is f server was s)) refl noted.actor in
-      record { session = did.session; goes = did.goes; ends = inr did.ends }
+      record { session = did.session; goes = did.goes; ends = did.ends }
 
-  pub refused-before : IsAsBefore f was now → HasDone f HasRefused server was now
-  refused-before same = (let did = as-before f server was s now same in record { session = did.session; goes = did.goes; ends = inl did.ends })
-
-  pub told : (dim : ℕ) → HasNoted f (unknown_by dim) was now → HasDone f (HasTold true dim) server was now
+  pub told : (dim : ℕ) → HasNoted f (unknown_by dim) was now → HasDone f (λ x y. IsOneEvent (Unknown x.number x.server dim) x y) server was now
   told dim noted =
       let did =
       noted-one f server was s (unknown_by dim) now noted.pushed (length noted.pushed.older) refl (Unknown was.number server dim)
@@ -142,9 +139,9 @@ module _ (f : Floor) (server : ℕ) (was now : Player) (s : IsSession f server w
       record { session = did.session; goes = did.goes; ends = did.ends }
 
 -- it was refused behind a time in which it was as before
-pub refused-later : (f : Floor) (server : ℕ) (was mid now : Player) → HasDone f BeganNothing server was mid → HasDone f HasRefused server mid now → HasDone f HasRefused server was now
-refused-later f server was mid now first second = record {
+pub refused-later : {T E : Type 0} (r : Result T E) (f : Floor) (server : ℕ) (was mid now : Player) → HasDone f BeganNothing server was mid → HasDone f (HasRefused r) server mid now → HasDone f (HasRefused r) server was now
+refused-later r f server was mid now first second = record {
   session = second.session;
   goes = goes-on (session_of f server was) (session_of f server mid) (session_of f server now) first.goes second.goes;
-  ends = refused-behind (session_of f server was) (session_of f server mid) (session_of f server now) first.goes first.ends second.ends;
+  ends = refused-behind (session_of f server was) (session_of f server mid) (session_of f server now) first.goes first.ends r second.ends;
 }

@@ -98,6 +98,7 @@ module _ {s : SeatValue Cell Actor Event} {own : Actor} {actors : List (Option A
         each = each-left;
         beyond = λ a below. else-at a (λ e. omega arith) ∙ are.beyond a (omega arith);
         right = subst (λ (h : List Event). IsRight (site_in about) h) (ap (λ (z : SeatValue Cell Actor Event). z.view.seen) (sym left)) are.right;
+        admin = are.admin;
       })
 
       pub has-taken : (q : SeatValue Cell Actor Event) → q ≡ seat → HasTaken number (passes_of s own actors) (passes_of t own items) (pass_of (record { number = number; actor = x; seat = q }))

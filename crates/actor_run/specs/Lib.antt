@@ -2,6 +2,8 @@ pub mod Passes
 pub mod Halls
 pub mod Opened
 pub mod Driving
+pub mod Called
 pub mod Sessions
 pub mod Doing
 pub mod Cursors
+pub mod Wholes

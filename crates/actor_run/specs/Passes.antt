@@ -6,8 +6,9 @@ use Rattle.row_ledger.specs.{Right.IsRight, declared.event.Event.Event}
 use Rattle.script_run.specs.Places.{begins_of}
 use Rattle.seat_steps.specs.declared.floor.{Floor.Floor, Player.Player}
 use Rattle.turn_table.specs.{Numbered.{Extends, value_of}, Seat.{SeatValue, cell_count}}
-use Rattle.volap_cell.specs.{Setting.{Setting, actor_count, site_in}, Sights.IsIdle, Values.actor_of, declared.actor.Actor.Actor, declared.cell.Cell.Cell, declared.role.Role.Role}
+use Rattle.volap_cell.specs.{Setting.{Setting, actor_count, site_in}, Sights.IsIdle, Values.actor_of, declared.actor.Actor.Actor, declared.cell.Cell.Cell, declared.role.{Role.Role, Role.TheVariants.Admin}}
 use Rattle.volap_turns.specs.{Seats.Holds, Wholes.CanBe}
+use Rattle.whole_steps.specs.Seats.{no_seat}
 
 -- One pass.
 
@@ -59,6 +60,19 @@ missing k (Some a ∷ actors) = missing (k + 1) actors
 abbrev pub passes_of : SeatValue Cell Actor Event → Actor → List (Option Actor) → PassesValue
 passes_of s own actors = record { table = s.table_id; setting = (actor_of own).setting; out = missing 0 actors; seen = s.view.seen }
 
+-- one of the actors is the administrator, whether the hall's own or that of a role
+
+abbrev pub IsAdminOf : Setting → ℕ → Type 0
+IsAdminOf s number = slice_get s.roles number ≡ Some Admin
+
+abbrev pub HasAdmin : Setting → Type 0
+HasAdmin s = (number : ℕ) × IsAdminOf s number
+
+-- the seat of passes, where it isn't out
+abbrev pub in_seat : Option (SeatValue Cell Actor Event) → SeatValue Cell Actor Event
+in_seat None = no_seat
+in_seat (Some s) = s
+
 -- The seat has this actor, which has nothing to do and has noted no more than the seat has seen.
 pub record IsIn (about : Setting) (s : SeatValue Cell Actor Event) (a : ℕ) (x : Actor) : Type 0 where
   pub last : Actor
@@ -88,6 +102,7 @@ pub record ArePasses (s : SeatValue Cell Actor Event) (own : Actor) (actors : Li
   pub each : (a : ℕ) → a < length actors → IsAt (actor_of own).setting s a (get_or actors a None)
   pub beyond : (a : ℕ) → length actors < a → value_of s.view.actors a ≡ none
   pub right : IsRight (site_in (actor_of own).setting) s.view.seen
+  pub admin : HasAdmin (actor_of own).setting
 
 -- the passes are those of the hall
 abbrev pub IsPassesOf : Floor → PassesValue → Type 0

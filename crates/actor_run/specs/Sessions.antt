@@ -1,15 +1,18 @@
 -- What the calls of a session promise: of the history that it had seen and of the one that it has seen then, the newest event first.
-use Rattle.std.specs.Prelude.{ℕ, ℤ, ◌≡◌, ◌^◌, ◌<◌, ◌≤◌, ◌⊎◌, true, List, [], ◌∷◌, ◌++◌, length, position, is_none, Some}
+use Rattle.std.specs.Prelude.{ℕ, ℤ, ◌≡◌, ◌^◌, ◌<◌, ◌≤◌, ◌⊎◌, true, List, [], ◌∷◌, ◌++◌, length, position, is_none, Some, Result, Ok, Err}
 use mathlib.Core.Option.{some}
-use Rattle.actor_run.specs.Passes.{PassValue}
+use Rattle.actor_run.specs.{Called.EndsCall, Passes.PassValue}
 use Rattle.dim_hierarchy.specs.{Filter.{IsFilterNamed, picks}, Row.{IsCoordNamed, leaves}, declared.filter.{NamePick.NamePick, Pick.Pick}, declared.row.Coord.Coord}
 use Rattle.row_ledger.specs.{Past.event_at, Right.IsRight, Site.site_of, declared.event.Event.Event}
 use Rattle.row_ledger.specs.declared.event.Event.TheVariants.{Acked, Answered, Asked, Begun, Failed, Refused, Unknown}
+use Rattle.row_ledger.specs.declared.settings.{Call.TheVariants.Sync, How.How, How.TheVariants.{Fine, NoMemory}}
 use Rattle.script_run.specs.Places.{begins_of}
 use Rattle.actor_run.specs.declared.session.Asked.TheVariants as asked
 use Rattle.actor_run.specs.declared.session.Inserted.TheVariants as inserted
+use Rattle.actor_run.specs.declared.session.Synced.TheVariants as synced
 use Rattle.actor_run.specs.declared.session.Asked.{Asked as AskedAnswer}
 use Rattle.actor_run.specs.declared.session.Inserted.{Inserted}
+use Rattle.actor_run.specs.declared.session.Synced.{Synced}
 use Rattle.seat_steps.specs.{Floors.Stands, declared.floor.{Floor.Floor, Player.Player}}
 use Rattle.session_steps.specs.Begins.{row_at}
 use Rattle.turn_table.specs.Numbered.{Extends, value_of}
@@ -92,15 +95,29 @@ pub record BeganInsert (of : ℕ) (names : List (List ℕ)) (measures : ℤ) (wa
   pub named : IsCoordNamed was.floor.hierarchy names at
   pub began : Began of (Begun was.number was.server (row_at of at measures)) was now
 
+-- how one ends of which something stands in the history
+abbrev pub EndedInsert : Inserted → List (List ℕ) → ℤ → SessionValue → SessionValue → Type 0
+EndedInsert (inserted.Ok of) names measures was now = BeganInsert of names measures was now × ((path : List ℕ) × IsNewest (Acked of path) now)
+EndedInsert (inserted.Unknown dim) names measures was now = (position is_none (leaves was.floor.hierarchy names) ≡ Some dim) × IsOneEvent (Unknown was.number was.server dim) was now
+EndedInsert inserted.NoMemory names measures was now = IsOneEvent (Refused was.number) was now ⊎ ((of : ℕ) × BeganInsert of names measures was now × IsNewest (Failed of) now)
+
+-- where memory is wanting it may be that nothing of it does
 abbrev pub EndsInsert : Inserted → List (List ℕ) → ℤ → SessionValue → SessionValue → Type 0
-EndsInsert (inserted.Ok of) names measures was now = BeganInsert of names measures was now × ((path : List ℕ) × IsNewest (Acked of path) now)
-EndsInsert (inserted.Unknown dim) names measures was now = (position is_none (leaves was.floor.hierarchy names) ≡ Some dim) × IsOneEvent (Unknown was.number was.server dim) was now
-EndsInsert inserted.NoMemory names measures was now =
-    BeganNothing was now ⊎ IsOneEvent (Refused was.number) was now ⊎ ((of : ℕ) × BeganInsert of names measures was now × IsNewest (Failed of) now)
+EndsInsert inserted.NoMemory names measures was now = BeganNothing was now ⊎ EndedInsert inserted.NoMemory names measures was now
+EndsInsert r names measures was now = EndedInsert r names measures was now
+
+-- or that is told
+abbrev pub TriesInsert : {E : Type 0} → Result Inserted E → List (List ℕ) → ℤ → SessionValue → SessionValue → Type 0
+TriesInsert (Ok r) names measures was now = EndedInsert r names measures was now
+TriesInsert (Err e) names measures was now = BeganNothing was now
 
 pub record DoesInsert (r : Inserted) (names : List (List ℕ)) (measures : ℤ) (was now : SessionValue) : Type 0 where
   pub goes : GoesOn was now
   pub ends : EndsInsert r names measures was now
+
+pub record DoesTryInsert {E : Type 0} (r : Result Inserted E) (names : List (List ℕ)) (measures : ℤ) (was now : SessionValue) : Type 0 where
+  pub goes : GoesOn was now
+  pub tries : TriesInsert r names measures was now
 
 -- A query's filter is that of these picks.
 
@@ -109,12 +126,36 @@ pub record BeganQuery (of : ℕ) (names : List NamePick) (was now : SessionValue
   pub named : IsFilterNamed was.floor.hierarchy names filter
   pub began : Began of (Asked was.number was.server filter) was now
 
+abbrev pub EndedQuery : AskedAnswer → List NamePick → SessionValue → SessionValue → Type 0
+EndedQuery (asked.Answer of agg) names was now = BeganQuery of names was now × IsNewest (Answered of agg) now
+EndedQuery (asked.Unknown dim) names was now = (position is_none (picks was.floor.hierarchy names) ≡ Some dim) × IsOneEvent (Unknown was.number was.server dim) was now
+EndedQuery asked.NoMemory names was now = IsOneEvent (Refused was.number) was now ⊎ ((of : ℕ) × BeganQuery of names was now × IsNewest (Failed of) now)
+
 abbrev pub EndsQuery : AskedAnswer → List NamePick → SessionValue → SessionValue → Type 0
-EndsQuery (asked.Answer of agg) names was now = BeganQuery of names was now × IsNewest (Answered of agg) now
-EndsQuery (asked.Unknown dim) names was now = (position is_none (picks was.floor.hierarchy names) ≡ Some dim) × IsOneEvent (Unknown was.number was.server dim) was now
-EndsQuery asked.NoMemory names was now =
-    BeganNothing was now ⊎ IsOneEvent (Refused was.number) was now ⊎ ((of : ℕ) × BeganQuery of names was now × IsNewest (Failed of) now)
+EndsQuery asked.NoMemory names was now = BeganNothing was now ⊎ EndedQuery asked.NoMemory names was now
+EndsQuery r names was now = EndedQuery r names was now
+
+abbrev pub TriesQuery : {E : Type 0} → Result AskedAnswer E → List NamePick → SessionValue → SessionValue → Type 0
+TriesQuery (Ok r) names was now = EndedQuery r names was now
+TriesQuery (Err e) names was now = BeganNothing was now
 
 pub record DoesQuery (r : AskedAnswer) (names : List NamePick) (was now : SessionValue) : Type 0 where
   pub goes : GoesOn was now
   pub ends : EndsQuery r names was now
+
+pub record DoesTryQuery {E : Type 0} (r : Result AskedAnswer E) (names : List NamePick) (was now : SessionValue) : Type 0 where
+  pub goes : GoesOn was now
+  pub tries : TriesQuery r names was now
+
+-- A pull is of the session's server.
+
+abbrev pub how_of : Synced → How
+how_of synced.Ok = Fine
+how_of synced.NoMemory = NoMemory
+
+abbrev pub EndsSync : Synced → SessionValue → SessionValue → Type 0
+EndsSync r was now = EndsCall was.floor was.number (Sync was.server) (how_of r) was.seen now.seen
+
+pub record DoesSync (r : Synced) (was now : SessionValue) : Type 0 where
+  pub goes : GoesOn was now
+  pub ends : EndsSync r was now

@@ -1,8 +1,8 @@
 //! What a session's calls do at its seat.
 ghost use Rattle.std.specs.Prelude.{ℕ, ◌≡◌, ◌<◌, List, All, length, IfSome, IfNone, IfOk, IfErr, OnOk, OnErr};
 ghost use Rattle.actor_run.specs.Cursors.{IsNoAnswer};
-ghost use Rattle.actor_run.specs.Doing.{Does, HasTold, HasRefused};
-ghost use Rattle.actor_run.specs.Sessions.{EndsInsert, EndsQuery, IsSession};
+ghost use Rattle.actor_run.specs.Doing.{Does, HasDone, HasTold, HasRefused};
+ghost use Rattle.actor_run.specs.Sessions.{BeganNothing, EndedQuery, EndsSync, IsSession, TriesInsert, TriesQuery};
 ghost use Rattle.dim_hierarchy.specs.Filter.{IsFilterNamed, IsFilterOf};
 ghost use Rattle.dim_hierarchy.specs.Names.{IsNamePick};
 ghost use Rattle.dim_hierarchy.specs.Row.{IsCoordNamed, IsCoordOf};
@@ -13,15 +13,17 @@ ghost use Rattle.seat_steps.specs.Floors.{Stands};
 
 use crate::bell::{Bell, wake};
 use crate::driving::drive;
-use crate::session::{Asked, Inserted};
+use crate::session::{Asked, Inserted, Synced};
+use call_steps::Synced as Pulled;
 use dim_hierarchy::{Coord, Filter, FilterFault, Measures, NameFilter, RowNames};
 use seat_steps::{Floor, Player};
 use session_steps::{Begun, End, begin_insert, begin_query, hear, note_refused, note_unknown};
-use std::alloc::Global;
+use std::alloc::{AllocError, Global};
 use std::sync::Wait;
 use volap_io::Meet;
 
-/// The session inserts a row of these names and measures. `seen` is then how many events it has seen.
+/// The session inserts a row of these names and measures. It is an error where memory is wanting and nothing of the insert
+/// stands in the history. `seen` is then how many events the session has seen.
 pub(crate) fn insert<R: Wait + Sync, M: Meet>(
     rt: &R,
     alloc: Global,
@@ -32,25 +34,25 @@ pub(crate) fn insert<R: Wait + Sync, M: Meet>(
     names: &RowNames,
     measures: Measures,
     meet: &M,
-) -> Inserted
+) -> Result<Inserted, AllocError>
     requires session { (server : ℕ) × IsSession floor.now server player.old }
     requires names { length names.now ≡ length floor.now.hierarchy }
-    ensures does { Does floor.now (EndsInsert result names.now measures) player.old player.new }
+    ensures does { Does floor.now (TriesInsert result names.now measures) player.old player.new }
     ensures seen { seen.new ≡ length player.new.seat.view.seen }
 {
     match floor.hierarchy.coord(names) {
         Ok(at) => insert_at(rt, alloc, floor, bell, player, seen, at, measures, meet),
         Err(dim) => {
-            if note(rt, alloc, floor, player, seen, dim) {
-                Inserted::Unknown { dim }
+            if note(rt, alloc, floor, player, seen, dim)? {
+                Ok(Inserted::Unknown { dim })
             } else {
-                Inserted::NoMemory
+                Ok(Inserted::NoMemory)
             }
         }
     }
 }
 
-/// The session inserts a row at this coordinate. `seen` is then how many events it has seen.
+/// The same at this coordinate.
 fn insert_at<R: Wait + Sync, M: Meet>(
     rt: &R,
     alloc: Global,
@@ -61,26 +63,27 @@ fn insert_at<R: Wait + Sync, M: Meet>(
     at: Coord,
     measures: Measures,
     meet: &M,
-) -> Inserted
+) -> Result<Inserted, AllocError>
     requires session { (server : ℕ) × IsSession floor.now server player.old }
     requires coord { IsCoordOf floor.now.hierarchy at }
-    ensures does { (names : List (List ℕ)) → IsCoordNamed floor.now.hierarchy names at → Does floor.now (EndsInsert result names measures) player.old player.new }
+    ensures does { (names : List (List ℕ)) → IsCoordNamed floor.now.hierarchy names at → Does floor.now (TriesInsert result names measures) player.old player.new }
     ensures seen { seen.new ≡ length player.new.seat.view.seen }
 {
     let Ok(of) = begin_insert(rt, alloc, floor, player, at, measures) else {
-        refuse(rt, alloc, floor, player, seen);
-        return Inserted::NoMemory;
+        refuse(rt, alloc, floor, player, seen)?;
+        return Ok(Inserted::NoMemory);
     };
     let end = drive(rt, alloc, floor, bell, player, meet);
     *seen = player.actor.seen;
     match end {
-        End::Acked => Inserted::Ok { of },
+        End::Acked => Ok(Inserted::Ok { of }),
         End::Answered(_) => unreachable!(),
-        End::Failed => Inserted::NoMemory,
+        End::Failed => Ok(Inserted::NoMemory),
     }
 }
 
-/// The session asks for the aggregate of the rows that match these picks by name. `seen` is then how many events it has seen.
+/// The session asks for the aggregate of the rows that match these picks by name. It is an error where memory is wanting and
+/// nothing of the query stands in the history. `seen` is then how many events the session has seen.
 pub(crate) fn query<R: Wait + Sync, M: Meet>(
     rt: &R,
     alloc: Global,
@@ -91,21 +94,21 @@ pub(crate) fn query<R: Wait + Sync, M: Meet>(
     seen: &mut u64,
     filter: &NameFilter,
     meet: &M,
-) -> Asked
+) -> Result<Asked, AllocError>
     requires session { (server : ℕ) × IsSession floor.now server player.old }
     requires count { length filter.now ≡ length floor.now.hierarchy }
     requires some { All IsNamePick filter.now }
     requires dims { 0 < length floor.now.hierarchy }
-    ensures does { Does floor.now (EndsQuery result filter.now) player.old player.new }
+    ensures does { Does floor.now (TriesQuery result filter.now) player.old player.new }
     ensures seen { seen.new ≡ length player.new.seat.view.seen }
 {
-    match filter_for(rt, alloc, floor, player, seen, filter) {
+    match filter_for(rt, alloc, floor, player, seen, filter)? {
         Ok(picks) => query_with(rt, alloc, floor, bell, hands, player, seen, picks, meet),
-        Err(answer) => answer,
+        Err(answer) => Ok(answer),
     }
 }
 
-/// The session asks with this filter. `seen` is then how many events it has seen.
+/// The same with this filter.
 fn query_with<R: Wait + Sync, M: Meet>(
     rt: &R,
     alloc: Global,
@@ -116,28 +119,53 @@ fn query_with<R: Wait + Sync, M: Meet>(
     seen: &mut u64,
     filter: Filter,
     meet: &M,
-) -> Asked
+) -> Result<Asked, AllocError>
     requires session { (server : ℕ) × IsSession floor.now server player.old }
     requires filter { IsFilterOf floor.now.hierarchy filter }
     requires dims { 0 < length floor.now.hierarchy }
-    ensures does { (names : List NamePick) → IsFilterNamed floor.now.hierarchy names filter → Does floor.now (EndsQuery result names) player.old player.new }
+    ensures does { (names : List NamePick) → IsFilterNamed floor.now.hierarchy names filter → Does floor.now (TriesQuery result names) player.old player.new }
     ensures seen { seen.new ≡ length player.new.seat.view.seen }
 {
     let Some(of) = ask(rt, alloc, floor, bell, hands, player, filter) else {
-        refuse(rt, alloc, floor, player, seen);
-        return Asked::NoMemory;
+        refuse(rt, alloc, floor, player, seen)?;
+        return Ok(Asked::NoMemory);
     };
     let end = drive(rt, alloc, floor, bell, player, meet);
     *seen = player.actor.seen;
     match end {
         End::Acked => unreachable!(),
-        End::Answered(agg) => Asked::Answer { of, agg },
-        End::Failed => Asked::NoMemory,
+        End::Answered(agg) => Ok(Asked::Answer { of, agg }),
+        End::Failed => Ok(Asked::NoMemory),
     }
 }
 
-/// The filter of these picks by name. Where there is none, the answer says why, and the session has noted that. `seen` is then how
-/// many events it has seen.
+/// The session's server pulls. `seen` is then how many events the session has seen.
+pub(crate) fn sync<R: Wait>(
+    rt: &R,
+    alloc: Global,
+    floor: &Floor,
+    player: &mut Player,
+    seen: &mut u64,
+    server: u8,
+) -> Synced
+    requires session { IsSession floor.now server player.old }
+    ensures does { HasDone floor.now (EndsSync result) server player.old player.new }
+    ensures seen { seen.new ≡ length player.new.seat.view.seen }
+{
+    let answer = match call_steps::sync(rt, alloc, floor, player, server) {
+        Pulled::Ok(_) => Synced::Ok,
+        Pulled::Failed(_) => Synced::NoMemory,
+        Pulled::NotBegun => {
+            let _ = refuse(rt, alloc, floor, player, seen);
+            return Synced::NoMemory;
+        }
+    };
+    *seen = player.actor.seen;
+    answer
+}
+
+/// The filter of these picks by name. Where there is none, the answer says why, and the session has noted that; it is an error
+/// where no memory is found for the note. `seen` is then how many events the session has seen.
 pub(crate) fn filter_for<R: Wait>(
     rt: &R,
     alloc: Global,
@@ -145,28 +173,30 @@ pub(crate) fn filter_for<R: Wait>(
     player: &mut Player,
     seen: &mut u64,
     names: &NameFilter,
-) -> Result<Filter, Asked>
+) -> Result<Result<Filter, Asked>, AllocError>
     requires session { (server : ℕ) × IsSession floor.now server player.old }
     requires count { length names.now ≡ length floor.now.hierarchy }
     requires some { All IsNamePick names.now }
-    ensures named { IfOk result (IsFilterNamed floor.now.hierarchy names.now) }
-    ensures same { OnOk result (player.new ≡ player.old) }
-    ensures refused { IfErr result (λ answer. Does floor.now (EndsQuery answer names.now) player.old player.new) }
-    ensures no_answer { IfErr result IsNoAnswer }
-    ensures seen { OnErr result (seen.new ≡ length player.new.seat.view.seen) }
+    ensures named { IfOk result (λ r. IfOk r (IsFilterNamed floor.now.hierarchy names.now)) }
+    ensures same { IfOk result (λ r. OnOk r (player.new ≡ player.old)) }
+    ensures refused { IfOk result (λ r. IfErr r (λ answer. Does floor.now (EndedQuery answer names.now) player.old player.new)) }
+    ensures no_answer { IfOk result (λ r. IfErr r IsNoAnswer) }
+    ensures seen { IfOk result (λ r. OnErr r (seen.new ≡ length player.new.seat.view.seen)) }
+    ensures nothing { OnErr result (Does floor.now BeganNothing player.old player.new) }
+    ensures heard { OnErr result (seen.new ≡ length player.new.seat.view.seen) }
 {
     match floor.hierarchy.filter(alloc, names) {
-        Ok(filter) => Ok(filter),
+        Ok(filter) => Ok(Ok(filter)),
         Err(FilterFault::Unknown { dim }) => {
-            if note(rt, alloc, floor, player, seen, dim) {
-                Err(Asked::Unknown { dim })
+            if note(rt, alloc, floor, player, seen, dim)? {
+                Ok(Err(Asked::Unknown { dim }))
             } else {
-                Err(Asked::NoMemory)
+                Ok(Err(Asked::NoMemory))
             }
         }
         Err(FilterFault::NoMemory) => {
-            refuse(rt, alloc, floor, player, seen);
-            Err(Asked::NoMemory)
+            refuse(rt, alloc, floor, player, seen)?;
+            Ok(Err(Asked::NoMemory))
         }
     }
 }
@@ -205,27 +235,34 @@ pub(crate) fn ask<R: Wait>(
     unreachable!()
 }
 
-/// The session notes that its next command finds no memory, where there is memory for that. `seen` is then how many events it has
-/// seen.
+/// The session notes that its next command finds no memory. It is an error where there is none for that. `seen` is then how many
+/// events the session has seen.
 pub(crate) fn refuse<R: Wait>(
     rt: &R,
     alloc: Global,
     floor: &Floor,
     player: &mut Player,
     seen: &mut u64,
-)
+) -> Result<(), AllocError>
     requires session { (server : ℕ) × IsSession floor.now server player.old }
-    ensures does { Does floor.now HasRefused player.old player.new }
+    ensures does { Does floor.now (HasRefused result) player.old player.new }
     ensures seen { seen.new ≡ length player.new.seat.view.seen }
 {
     match note_refused(rt, alloc, floor, player) {
-        Ok(()) => *seen = player.actor.seen,
-        Err(_) => *seen = hear(rt, floor, player),
+        Ok(()) => {
+            *seen = player.actor.seen;
+            Ok(())
+        }
+        Err(fault) => {
+            *seen = hear(rt, floor, player);
+            Err(fault)
+        }
     }
 }
 
-/// The session notes that its next command names what is not known, first in this dimension; where there is no memory for
-/// that, the command is refused, and the answer is false. `seen` is then how many events it has seen.
+/// The session notes that its next command names what is not known, first in this dimension. Where there is no memory for
+/// that, the command is refused, and the answer is false; it is an error where there is none for this either. `seen` is then
+/// how many events the session has seen.
 fn note<R: Wait>(
     rt: &R,
     alloc: Global,
@@ -233,7 +270,7 @@ fn note<R: Wait>(
     player: &mut Player,
     seen: &mut u64,
     dim: u8,
-) -> bool
+) -> Result<bool, AllocError>
     requires session { (server : ℕ) × IsSession floor.now server player.old }
     ensures does { Does floor.now (HasTold result dim) player.old player.new }
     ensures seen { seen.new ≡ length player.new.seat.view.seen }
@@ -241,11 +278,11 @@ fn note<R: Wait>(
     match note_unknown(rt, alloc, floor, player, dim) {
         Ok(()) => {
             *seen = player.actor.seen;
-            true
+            Ok(true)
         }
         Err(_) => {
-            refuse(rt, alloc, floor, player, seen);
-            false
+            refuse(rt, alloc, floor, player, seen)?;
+            Ok(false)
         }
     }
 }

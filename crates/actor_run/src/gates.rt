@@ -48,8 +48,9 @@ pub(crate) fn begin<R: Wait>(
     ensures seen { OnErr result (seen.new ≡ length player.new.seat.view.seen) }
 {
     match filter_for(rt, alloc, floor, player, seen, names) {
-        Ok(filter) => begin_with(rt, alloc, floor, bell, hands, player, seen, filter),
-        Err(answer) => Err(answer),
+        Ok(Ok(filter)) => begin_with(rt, alloc, floor, bell, hands, player, seen, filter),
+        Ok(Err(answer)) => Err(answer),
+        Err(_) => Err(Asked::NoMemory),
     }
 }
 
@@ -74,7 +75,7 @@ fn begin_with<R: Wait>(
 {
     let copy = Snapshot::of(&filter);
     let Some(of) = ask(rt, alloc, floor, bell, hands, player, filter) else {
-        refuse(rt, alloc, floor, player, seen);
+        let _ = refuse(rt, alloc, floor, player, seen);
         return Err(Asked::NoMemory);
     };
     go_to_gate(rt, alloc, floor, player);

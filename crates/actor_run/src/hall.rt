@@ -74,7 +74,11 @@ impl Hall {
                 hands,
                 alloc,
             },
-            Passes { seat, own, actors },
+            Passes {
+                seat: Some(seat),
+                own,
+                actors,
+            },
         ))
     }
 
@@ -125,6 +129,7 @@ impl Hall {
             own,
             mut actors,
         } = passes;
+        let Some(seat) = seat else { unreachable!() };
         actors.push_reserved(Some(own));
         close(&hierarchy, table, seat, actors)
     }

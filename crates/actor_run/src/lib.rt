@@ -5,6 +5,8 @@
 mod bell;
 mod calls;
 mod cursor;
+#[cfg(test)]
+mod cursor_tests;
 mod driving;
 mod gates;
 mod hall;
@@ -12,10 +14,12 @@ mod passes;
 mod session;
 #[cfg(test)]
 mod tests;
+mod whole;
 
 pub use bell::Bell;
 pub use cursor::{Cursor, Visit};
 pub use hall::Hall;
 pub use passes::{Pass, Passes};
-pub use session::{Asked, Inserted, Session};
+pub use session::{Asked, Inserted, Session, Synced};
 pub use turn_table::Busy;
+pub use whole::TreeFault;

@@ -1,5 +1,6 @@
 //! The passes of a hall.
-ghost use Rattle.std.specs.Prelude.{◌≡◌, ◌<◌, IfSome, IfNone, None, Some, get_or, length, set, vec_len, vec_capacity};
+ghost use Rattle.std.specs.Prelude.{◌≡◌, ◌+◌, ◌^◌, ◌<◌, IfSome, IfNone, None, Some, get_or, length, set, vec_len, vec_capacity};
+ghost use Rattle.volap_cell.specs.Setting.{actor_count};
 ghost use Rattle.actor_run.specs.Passes.{HasGiven, HasTaken, IsOut, IsPass, IsPassOf, IsPassesOf, pass_of};
 
 use crate::hall::Hall;
@@ -35,7 +36,8 @@ impl Model for Pass {
 /// history that they have seen together.
 #[derive(Drop)]
 pub struct Passes {
-    pub(crate) seat: Seat<Volap>,
+    /// It is out only while a call has all passes.
+    pub(crate) seat: Option<Seat<Volap>>,
     /// The hall's own, whose number is behind those of the roles.
     pub(crate) own: Actor,
     /// By number; `None` where the pass is out.
@@ -45,17 +47,17 @@ pub struct Passes {
 impl Model for Passes {
     ghost use Rattle.dim_hierarchy.specs.Stored.{dimension_code};
     ghost use Rattle.std.specs.Coded.{codes};
-    ghost use Rattle.std.specs.Prelude.{◌<◌, vec_len, vec_capacity};
-    ghost use Rattle.actor_run.specs.Passes.{ArePasses, PassesValue, passes_of};
+    ghost use Rattle.std.specs.Prelude.{◌<◌, IsSome, vec_len, vec_capacity};
+    ghost use Rattle.actor_run.specs.Passes.{ArePasses, PassesValue, in_seat, passes_of};
 
     ghost Value = { PassesValue };
 
     ghost coded = { Prim.hlevel (codes, dimension_code) };
 
-    ghost view = { λ p. passes_of p.seat p.own p.actors.items };
+    ghost view = { λ p. passes_of (in_seat p.seat) p.own p.actors.items };
 
     // There is room for the hall's own, which is put behind the others at the end.
-    ghost invariant = { λ p. ArePasses p.seat p.own p.actors.items × (vec_len p.actors < vec_capacity p.actors) };
+    ghost invariant = { λ p. ArePasses (in_seat p.seat) p.own p.actors.items × (vec_len p.actors < vec_capacity p.actors) × IsSome p.seat };
 }
 
 impl Pass {
@@ -78,6 +80,14 @@ impl Pass {
 }
 
 impl Passes {
+    /// How many roles there are.
+    pub fn roles(&self) -> usize
+        ensures count { result + 1 ≡ actor_count self.now.setting }
+        ensures few { result + 1 < 2 ^ 16 }
+    {
+        self.actors.len()
+    }
+
     /// Gives out the pass of the role at this place; `None` exactly where there is no such role, or its pass is out. Takes no memory.
     pub fn take(&mut self, hall: &Hall, number: u16) -> Option<Pass>
         requires own { IsPassesOf hall.now self.old }
@@ -89,7 +99,10 @@ impl Passes {
     {
         let number = u32::from(number);
         let actor = taken(&mut self.actors, number)?;
-        let seat = hall.floor.table.split_seat(&mut self.seat, number);
+        let Some(all) = &mut self.seat else {
+            unreachable!()
+        };
+        let seat = hall.floor.table.split_seat(all, number);
         Some(Pass {
             player: Player {
                 number,
@@ -113,13 +126,16 @@ impl Passes {
                 seat,
             },
         } = pass;
-        hall.floor.table.join_seat(&mut self.seat, seat);
+        let Some(all) = &mut self.seat else {
+            unreachable!()
+        };
+        hall.floor.table.join_seat(all, seat);
         put(&mut self.actors, number, actor);
     }
 }
 
 /// Takes out the actor at this place, if one stands there.
-fn taken(actors: &mut Vec<Option<Actor>>, number: u32) -> Option<Actor>
+pub(crate) fn taken(actors: &mut Vec<Option<Actor>>, number: u32) -> Option<Actor>
     ensures some { IfSome result (λ x. (number < length actors.old.items) × (get_or actors.old.items number None ≡ Some x)) }
     ensures none { IfNone result (get_or actors.old.items number None ≡ None) }
     ensures now { actors.new.items ≡ set actors.old.items number None }
@@ -134,7 +150,7 @@ fn taken(actors: &mut Vec<Option<Actor>>, number: u32) -> Option<Actor>
 }
 
 /// Puts an actor at its place, which is empty: nothing is dropped there.
-fn put(actors: &mut Vec<Option<Actor>>, number: u32, actor: Actor)
+pub(crate) fn put(actors: &mut Vec<Option<Actor>>, number: u32, actor: Actor)
     requires { number < length actors.old.items }
     ensures now { actors.new.items ≡ set actors.old.items number (Some actor) }
     ensures room { (vec_len actors.new ≡ vec_len actors.old) × (vec_capacity actors.new ≡ vec_capacity actors.old) }

@@ -2,11 +2,11 @@
 ghost use Rattle.std.specs.Prelude.{◌≡◌, length, All, IfOk, IfErr};
 ghost use Rattle.actor_run.specs.Cursors.{IsCursorFor, IsNoAnswer};
 ghost use Rattle.actor_run.specs.Passes.{IsPassOf};
-ghost use Rattle.actor_run.specs.Sessions.{BecomesPass, DoesInsert, DoesQuery, IsPassFor, IsSessionRole};
+ghost use Rattle.actor_run.specs.Sessions.{BecomesPass, DoesInsert, DoesQuery, DoesSync, DoesTryInsert, DoesTryQuery, IsPassFor, IsSessionRole, IsSessionWith, session_of};
 ghost use Rattle.dim_hierarchy.specs.Names.{IsNamePick};
 
 use crate::bell::wake;
-use crate::calls::{insert, query};
+use crate::calls::{insert, query, sync};
 use crate::cursor::Cursor;
 use crate::gates::begin;
 use crate::hall::Hall;
@@ -15,7 +15,7 @@ use dim_hierarchy::{Measures, NameFilter, RowNames};
 use measure_agg::Agg;
 use seat_steps::Player;
 use session_steps::{come, empty_purse, hear, leave};
-use std::alloc::Global;
+use std::alloc::{AllocError, Global};
 use std::marker::Model;
 use std::snapshot::Snapshot;
 use std::sync::Wait;
@@ -39,6 +39,14 @@ pub enum Asked {
     Answer { of: u64, agg: Agg },
     /// The first dimension with a name that isn't that of a concept.
     Unknown { dim: u8 },
+    NoMemory,
+}
+
+/// How a pull ended.
+#[derive(Clone, Copy)]
+pub enum Synced {
+    /// The server has pulled.
+    Ok,
     NoMemory,
 }
 
@@ -101,6 +109,24 @@ impl<'a> Session<'a> {
         requires names { length names.now ≡ length self.old.floor.hierarchy }
         ensures does { DoesInsert result names.now measures self.old self.new }
     {
+        match self.try_insert(rt, alloc, names, measures, meet) {
+            Ok(inserted) => inserted,
+            Err(_) => Inserted::NoMemory,
+        }
+    }
+
+    /// The same. It is an error where no memory is found even for a note in the history that the insert was refused.
+    pub fn try_insert<R: Wait + Sync, M: Meet>(
+        &mut self,
+        rt: &R,
+        alloc: Global,
+        names: &RowNames,
+        measures: Measures,
+        meet: &M,
+    ) -> Result<Inserted, AllocError>
+        requires names { length names.now ≡ length self.old.floor.hierarchy }
+        ensures does { DoesTryInsert result names.now measures self.old self.new }
+    {
         let hall = self.hall;
         insert(
             rt,
@@ -127,6 +153,24 @@ impl<'a> Session<'a> {
         requires some { All IsNamePick filter.now }
         ensures does { DoesQuery result filter.now self.old self.new }
     {
+        match self.try_query(rt, alloc, filter, meet) {
+            Ok(asked) => asked,
+            Err(_) => Asked::NoMemory,
+        }
+    }
+
+    /// The same. It is an error where no memory is found even for a note in the history that the query was refused.
+    pub fn try_query<R: Wait + Sync, M: Meet>(
+        &mut self,
+        rt: &R,
+        alloc: Global,
+        filter: &NameFilter,
+        meet: &M,
+    ) -> Result<Asked, AllocError>
+        requires count { length filter.now ≡ length self.old.floor.hierarchy }
+        requires some { All IsNamePick filter.now }
+        ensures does { DoesTryQuery result filter.now self.old self.new }
+    {
         let hall = self.hall;
         query(
             rt,
@@ -138,6 +182,22 @@ impl<'a> Session<'a> {
             &mut self.seen,
             filter,
             meet,
+        )
+    }
+
+    /// Its server pushes what its image has grown by, and pulls what stands.
+    pub fn sync<R: Wait>(&mut self, rt: &R, alloc: Global) -> Synced
+        ensures does { DoesSync result self.old self.new }
+    {
+        let hall = self.hall;
+        let server = self.server;
+        sync(
+            rt,
+            alloc,
+            &hall.floor,
+            &mut self.player,
+            &mut self.seen,
+            server,
         )
     }
 
@@ -191,6 +251,33 @@ impl<'a> Session<'a> {
                 };
                 Err((session, answer))
             }
+        }
+    }
+
+    /// The actor of the session at its seat, and how many events it has seen.
+    pub fn into_player(self) -> (Player, u64)
+        ensures session { IsSessionWith self.entry.floor self.entry.server result.0 result.1 }
+        ensures same { session_of self.entry.floor self.entry.server result.0 ≡ self.entry }
+    {
+        let Session {
+            hall: _,
+            server: _,
+            player,
+            seen,
+        } = self;
+        (player, seen)
+    }
+
+    /// The session of a server's actor at its seat, which has seen so many events.
+    pub fn of(hall: &'a Hall, server: u8, player: Player, seen: u64) -> Session<'a>
+        requires session { IsSessionWith hall.now server player seen }
+        ensures { result ≡ session_of hall.now server player }
+    {
+        Session {
+            hall,
+            server,
+            player,
+            seen,
         }
     }
 

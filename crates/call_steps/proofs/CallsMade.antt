@@ -3,6 +3,7 @@ use Rattle.std.proofs.Common.{◌≡◌, ◌∙◌, ℕ, Bool, true, false, List
 use Rattle.call_steps.proofs.AtAction.{at-action}
 use Rattle.call_steps.specs.Calls.{CanCall, CanEndCall, CanLeaveAction, CanPullFor, HasCalled, HasEndedCall, HasLeftAction, HasPulledFor, this}
 use Rattle.core_image.specs.Told.{called_by, open_of}
+use Rattle.core_told.proofs.Pulling.{ending-law}
 use Rattle.core_steps.specs.{Books.{book_kind, book_places, book_tells}, Notes.{note_kind, note_places, note_tells}, Places.{one_at, two_at}}
 use Rattle.core_steps.specs.declared.books.BookStep.TheVariants as book
 use Rattle.core_steps.specs.declared.notes.NoteStep.TheVariants as note
@@ -10,16 +11,18 @@ use Rattle.dim_hierarchy.specs.Dimension.{Dimension}
 use Rattle.list_words.proofs.Elements.{Some-same}
 use Rattle.row_ledger.specs.{Classes.class_of, declared.event.Event.Event, declared.settings.{Call.Call, How.How}}
 use Rattle.row_ledger.specs.declared.event.Event.TheVariants as event
-use Rattle.seat_steps.proofs.{HeldLedger.{HasSeenAll, PushesBy, changed, does-held, held_at, history_in, newest, pushed, seen-was, tells-held, told-by}, Since.{mid-same, pushed-since}}
+use Rattle.script_run.specs.Runs.{HasPulls, PullsAlone}
+use Rattle.seat_steps.proofs.{Around.around, HeldLedger.{HasSeenAll, PushesBy, changed, does-held, held_at, history_in, newest, pushed, seen-was, tells-held, told-by}, Since.{mid-same, pushed-since}}
 use Rattle.seat_steps.specs.{Booked.{HasBooked, IsUnchanged}, Floors.IsSeated, Made.HasMade, declared.floor.{Floor.Floor, Player.Player}}
 use Rattle.server_image.specs.Registry.{RegistryValue}
 use Rattle.volap_cell.specs.{Cells.CellValue, Commands.{MayNoteEnd, after_action, due_pull, once_shown, pulled_once}, ImageKinds.{DoesNote, DoesNoteWith, DoesSync, IsBegun, IsFree, NotesCalled, NotesEnded, NotesLeft, OfCalled, OfCalledAsking, OfCount, OfEnded, OfLeft, OfQuery, OfRefused, OfShown, OfUnknown, OfUnrouted, doing}, Planning.next_job, Setting.{Setting, ledger_cell, registry_cell}, Values.{ActorValue, JobValue, actor_of}, World.{Change, World}, declared.cell.Cell.Cell, declared.command.{Balance.Balance, Command.Command, Work.Work}, declared.kind.Kind.Kind}
+use Rattle.volap_cell.specs.Steps as steps
 use Rattle.volap_cell.specs.declared.command.Work.TheVariants as work_is
 use Rattle.volap_cell.specs.declared.kind.Kind.TheVariants as kind
 use Rattle.volap_turns.specs.Rows.{IsThere}
 
 -- an actor is at one command
-same-work : (of of_too : ℕ) (work work_too : Work) (command : Option Command) → command ≡ doing of work → command ≡ doing of_too work_too → work ≡ work_too
+pub same-work : (of of_too : ℕ) (work work_too : Work) (command : Option Command) → command ≡ doing of work → command ≡ doing of_too work_too → work ≡ work_too
 same-work of of_too work work_too command is is_too = ap (λ (c : Command). c.work) (Some-same (record { of = of_too; work = work_too }) (record { of = of; work = work }) (sym is_too ∙ is))
 
 -- which has none, or one
@@ -34,7 +37,7 @@ work-at p command of work read is = ap (λ (c : Command). c.work) (sym (Some-sam
 
 module _ (l : Change) (a b : ActorValue) (free : IsFree a) where
   -- with the event of a call its beginning is noted
-  called-note : (call : Call) → history_in l.now ≡ event.Called a.number call ∷ history_in l.before → DoesNote l a b → (registry : RegistryValue) × NotesCalled registry false l a b
+  pub called-note : (call : Call) → history_in l.now ≡ event.Called a.number call ∷ history_in l.before → DoesNote l a b → (registry : RegistryValue) × NotesCalled registry false l a b
   called-note call told (OfCalled registry n) = (registry, n)
   called-note call told (OfUnknown n) = (let q = sym told ∙ (pushed n.pushed).0 in absurd (cc))
   called-note call told (OfRefused n) = (let q = sym told ∙ (pushed n.pushed).0 in absurd (cc))
@@ -44,7 +47,7 @@ module _ (l : Change) (a b : ActorValue) (free : IsFree a) where
   called-note call told (OfCount n) = (let never : [] ≡ event.Called a.number call ∷ history_in l.before = sym (ap history_in n.turns.is) ∙ told in absurd (cc))
 
   -- so is it with the registry
-  asking-note : (c : Change) → DoesNoteWith c l a b → (registry : RegistryValue) × NotesCalled registry true l a b
+  pub asking-note : (c : Change) → DoesNoteWith c l a b → (registry : RegistryValue) × NotesCalled registry true l a b
   asking-note c (OfCalledAsking registry asked n) = (registry, n)
   asking-note c (OfUnrouted x) = no-command x.of (work_is.Insert x.row false) a.command free.command x.command
   asking-note c (OfQuery x) = no-command x.of work_is.Query a.command free.command x.command
@@ -139,7 +142,7 @@ has-pulled {f} image server {p} {was} {now} seated same can booked =
 -- Notes of an actor with a command.
 
 -- with the event of an end it is noted that the command ends so
-ended-note : (l : Change) (a b : ActorValue) (of : ℕ) (h : How) → history_in l.now ≡ event.Ended of h ∷ history_in l.before → DoesNote l a b → (n : NotesEnded l a b) × (n.how_it_ends ≡ h)
+pub ended-note : (l : Change) (a b : ActorValue) (of : ℕ) (h : How) → history_in l.now ≡ event.Ended of h ∷ history_in l.before → DoesNote l a b → (n : NotesEnded l a b) × (n.how_it_ends ≡ h)
 ended-note l a b of h told (OfEnded n) = (n, (let q = sym (pushed n.ended).0 ∙ told in cc))
 ended-note l a b of h told (OfUnknown n) = (let q = sym told ∙ (pushed n.pushed).0 in absurd (cc))
 ended-note l a b of h told (OfRefused n) = (let q = sym told ∙ (pushed n.pushed).0 in absurd (cc))
@@ -166,6 +169,18 @@ module _ {f : Floor} {See : Setting → World → ℕ → Type 0} {Tells : Actor
   abbrev on_ledger : Change
   on_ledger = changed (booked.mid).seat.view.held (booked.made).new ledger_cell
 
+  -- so the command ends with the pulls that it was to make, if no other one pulled
+  pulled-so : (h : How) → (n : NotesEnded on_ledger (actor_of p.actor) (actor_of now.actor)) → n.how_it_ends ≡ h → PullsAlone (booked.mid).seat.view.seen n.of → HasPulls f.with (booked.mid).seat.view.seen (event.Ended n.of h)
+  pulled-so h n how_is alone =
+      let mid = booked.mid in
+      let (s, w, is) = around f mid booked.seated in
+      let history : steps.history_in w ≡ mid.seat.view.seen = is.seen there.0 there.1 in
+      let actor : w.actors mid.number ≡ actor_of p.actor = is.actor ∙ (mid-same p same booked).actor in
+      let servers : s.servers ≡ (actor_of p.actor).setting.servers = is.servers ∙ sym seated.servers in
+      let may : MayNoteEnd s.servers n.work (w.actors mid.number).job h = subst (λ (x : ℕ × Option JobValue × How). MayNoteEnd x.0 n.work x.1 x.2) (λ i. (sym servers i, sym (ap (λ (a : ActorValue). a.job) actor) i, how_is i)) n.ends in
+      subst (λ (l : List Event). HasPulls f.with l (event.Ended n.of h)) history
+      (ending-law s w is.inv.ghost_of mid.number (record { of = n.of; work = n.work }) h f.with is.inv.holds is.pulling (ap (λ (a : ActorValue). a.command) actor ∙ n.command) may (sym is.servers) (subst (λ (l : List Event). PullsAlone l n.of) (sym history) alone))
+
   ended-so : (h : How) → CanEndCall f h p → (n : NotesEnded on_ledger (actor_of p.actor) (actor_of now.actor)) → n.how_it_ends ≡ h → HasEndedCall f h p now
   ended-so h can n how_is =
       let e = newest booked.made booked.whole there n.ended in
@@ -174,6 +189,7 @@ module _ {f : Floor} {See : Setting → World → ℕ → Type 0} {Tells : Actor
         work = n.work;
         command = n.command;
         pushed = pushed-since p same booked (this (event.Ended n.of h)) (e.0 ∙ (λ k. event.Ended n.of (how_is k) ∷ (booked.mid).seat.view.seen)) can.noted;
+        pulls = pulled-so h n how_is;
         actor = n.actor_is ∙ (λ k. record (actor_of p.actor) { command = None; job = None; seen = e.1 k });
       }
 

@@ -1,3 +1,5 @@
 pub mod AtAction
 pub mod CallsDue
 pub mod CallsMade
+pub mod OpenCalls
+pub mod Syncing

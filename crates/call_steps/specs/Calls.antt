@@ -6,6 +6,7 @@ use Rattle.row_ledger.specs.{Classes.class_of, declared.event.Event.Event, decla
 use Rattle.row_ledger.specs.declared.class.Class.TheVariants as class
 use Rattle.row_ledger.specs.declared.event.Event.TheVariants as event
 use Rattle.seat_steps.specs.{Booked.HasPushed, declared.floor.{Floor.Floor, Player.Player}}
+use Rattle.script_run.specs.Runs.{HasPulls, PullsAlone}
 use Rattle.server_image.specs.Registry.{RegistryValue}
 use Rattle.volap_cell.specs.{Commands.{MayCall, MayNoteEnd, after_action, due_pull, pulled_once}, ImageKinds.{IsBegun, IsFree, LeavesAs, doing}, Planning.next_job, Values.{ActorValue, JobValue, actor_of}, declared.command.{Balance.Balance, Work.Work}}
 use Rattle.volap_cell.specs.declared.command.Work.TheVariants as work_is
@@ -95,10 +96,12 @@ pub record CanEndCall (f : Floor) (how : How) (p : Player) : Type 0 where
   pub no_part : (actor_of p.actor).errand ≡ None
   pub noted : (actor_of p.actor).seen ≤ length p.seat.view.seen
 
--- The command has ended so with the newest event, and the actor does nothing.
+-- The command has ended so with the newest event, and the actor does nothing. Where no other command that pulls was open meanwhile, it had
+-- pulled as it was to.
 pub record HasEndedCall (f : Floor) (how : How) (was now : Player) : Type 0 where
   pub of : ℕ
   pub work : Work
   pub command : (actor_of was.actor).command ≡ doing of work
   pub pushed : HasPushed f (this (event.Ended of how)) was now
+  pub pulls : PullsAlone pushed.older of → HasPulls f.with pushed.older (event.Ended of how)
   pub actor : actor_of now.actor ≡ record (actor_of was.actor) { command = None; job = None; seen = length now.seat.view.seen }

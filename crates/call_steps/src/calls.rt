@@ -37,7 +37,7 @@ pub fn begin_call<R: Wait>(
 }
 
 /// Whether a call of this class asks the registry what stands.
-fn asks_registry(class: Class) -> bool
+pub fn asks_registry(class: Class) -> bool
     ensures { result ≡ asks_registry class }
 {
     matches!(

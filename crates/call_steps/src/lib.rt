@@ -27,7 +27,9 @@
 mod calls;
 mod ends;
 mod pulls;
+mod syncs;
 
-pub use calls::begin_call;
+pub use calls::{asks_registry, begin_call};
 pub use ends::{end_call, leave_action};
 pub use pulls::pull;
+pub use syncs::{Synced, sync};

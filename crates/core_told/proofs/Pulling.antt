@@ -1,17 +1,17 @@
 -- An open command that pulls alone has pulled as far as its actor says, after each step.
 use Rattle.std.proofs.Common.{◌≡◌, ◌≢◌, ◌∙◌, ℕ, ◌<◌, inl, inr, true, false, List, [], ◌∷◌, ◌++◌, length, Option, Some, None, refl, sym, ap, subst, arith}
-use Rattle.std.specs.Prelude.{option_and_then}
+use Rattle.std.specs.Prelude.{IfSome, option_and_then}
 use mathlib.Core.Logic.{dite}
 use native.Mathlib.Decide.{ℕ_discrete}
 use Rattle.list_words.proofs.Elements.{Some-same}
 use Rattle.row_ledger.proofs.{Before.{ended-before, over-ended}, Fresh.kind-within, Positions.{before-older, event_at-older}}
 use Rattle.row_ledger.specs.{Classes.class_of, Past.{call_at, call_in, ends_itself, event_at, has_ended, is_over, pull_in, session_in}, Settled.pulls_since, declared.event.Event.Event, declared.settings.Call.Call}
 use Rattle.row_ledger.specs.declared.event.Event.TheVariants as event
-use Rattle.script_run.specs.Runs.{EndsBefore, PullsAlone, is_pulling}
+use Rattle.script_run.specs.Runs.{ArePulls, EndsBefore, PullsAlone, is_pulling}
 use Rattle.volap_cell.specs.{Commands.{due_pull, pulled_once}, Ghost.Ghost, ImageKinds.doing, Invariant.InvWith, Setting.Setting, Steps.{Step, history_in}, Telling.IsProgress, Values.{ActorValue, JobValue}, View.view, World.World, declared.command.Command.Command as OpenCommand, declared.command.Work.Work, declared.kind.Kind.Kind, declared.role.Role.Role}
 use Rattle.volap_cell.specs.declared.command.Work.TheVariants as work_is
-use Rattle.core_told.proofs.{Pulled.{begin-pulls-none, deed-pulls, end-pulls-none, plain-pulled, pull-next, pulled-more, pulled-none, pulled-same, shown-pulled}, Told.{doing-is, none-some, others-law, told-law}}
-use Rattle.core_told.specs.{Pulling.{IsPulling, OpenedPullingLaw, PullingLaw, RestingLaw}, Told.{GoesFurther, HasPulled, OfBeginning, OfDeed, OfEnd, OfNothing, OfPage, OfPull, OpensCommand, OpensNone, OpensOne, TellsBeginning, TellsPull, Told, is_plain}}
+use Rattle.core_told.proofs.{Pulled.{begin-pulls-none, deed-pulls, end-pulls-none, end-right, plain-pulled, pull-next, pulled-more, pulled-none, pulled-same, shown-pulled}, Told.{doing-is, none-some, others-law, told-law}}
+use Rattle.core_told.specs.{Pulling.{EndingLaw, IsPulling, OpenedPullingLaw, PullingLaw, RestingLaw}, Told.{GoesFurther, HasPulled, OfBeginning, OfDeed, OfEnd, OfNothing, OfPage, OfPull, OpensCommand, OpensNone, OpensOne, TellsBeginning, TellsPull, Told, is_plain}}
 
 -- Histories.
 
@@ -135,3 +135,8 @@ resting-law s w none a c at = none-some (w.actors a).command c (none a) at
 
 pub opened-pulling-law : OpenedPullingLaw
 opened-pulling-law s w opening = resting-law s w (λ a. (opening.actors a).command)
+
+pub ending-law : EndingLaw
+ending-law s w g n c how with i has at may servers alone =
+    subst (λ m. IfSome (call_at (history_in w) c.of) (λ called. ArePulls m (class_of called) how (pulls_since (history_in w) c.of))) (sym servers)
+    (end-right s (history_in w) (history_in w) c.of (w.actors n).job _ how refl refl c.work (i.telling.progress n c at) (has n c at alone) (inr may))

@@ -1,8 +1,8 @@
 -- How far an open command has pulled, as each state tells it.
 use Rattle.std.specs.Prelude.{ℕ, ◌≡◌, Some, None}
-use Rattle.row_ledger.specs.Settled.{pulls_since}
-use Rattle.script_run.specs.Runs.{PullsAlone}
-use Rattle.volap_cell.specs.{Ghost.Ghost, Invariant.InvWith, Opening.IsOpening, Setting.Setting, Steps.{Step, history_in}, View.view, World.World, declared.command.Command.Command as OpenCommand, declared.kind.Kind.Kind}
+use Rattle.row_ledger.specs.{Settled.pulls_since, declared.event.Event.TheVariants.Ended, declared.settings.How.How, declared.settings.Use.Use}
+use Rattle.script_run.specs.Runs.{HasPulls, PullsAlone}
+use Rattle.volap_cell.specs.{Commands.MayNoteEnd, Ghost.Ghost, Invariant.InvWith, Opening.IsOpening, Setting.Setting, Steps.{Step, history_in}, View.view, World.World, declared.command.Command.Command as OpenCommand, declared.kind.Kind.Kind}
 use Rattle.core_told.specs.Told.{HasPulled}
 
 -- An open command has pulled as far as its actor says, where no other command that pulls was open when it began or has begun since.
@@ -19,3 +19,8 @@ RestingLaw = (s : Setting) (w : World) → ((a : ℕ) → (w.actors a).command �
 
 abbrev pub OpenedPullingLaw : Type 0
 OpenedPullingLaw = (s : Setting) (w : World) → IsOpening s w → IsPulling s w
+
+-- In each state a command that may note its end so, and has pulled alone, ends with the pulls that it was to make.
+abbrev pub EndingLaw : Type 0
+EndingLaw = (s : Setting) (w : World) (g : Ghost) (n : ℕ) (c : OpenCommand) (how : How) (with : Use) → InvWith s (view s w) g → IsPulling s w → (w.actors n).command ≡ Some c
+    → MayNoteEnd s.servers c.work (w.actors n).job how → with.servers ≡ s.servers → PullsAlone (history_in w) c.of → HasPulls with (history_in w) (Ended c.of how)

@@ -1,6 +1,6 @@
 //! Laws of what a step tells the history, and of pulls. There is nothing to do at run time.
 
-ghost use Rattle.core_told.specs.Pulling.{OpenedPullingLaw, PullingLaw, RestingLaw};
+ghost use Rattle.core_told.specs.Pulling.{EndingLaw, OpenedPullingLaw, PullingLaw, RestingLaw};
 ghost use Rattle.core_told.specs.Told.{OthersLaw, ToldLaw};
 
 /// A step tells the history nothing, or one of the things that its actor's command comes to next; and
@@ -19,4 +19,9 @@ pub fn pulls_go_on()
 pub fn opening_has_pulled()
     ensures resting { RestingLaw }
     ensures opened { OpenedPullingLaw }
+{}
+
+/// So what pulled alone ends with the pulls that it was to make, however it may note its end.
+pub fn ends_have_pulls()
+    ensures { EndingLaw }
 {}

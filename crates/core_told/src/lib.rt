@@ -4,4 +4,4 @@
 
 mod laws;
 
-pub use laws::{opening_has_pulled, pulls_go_on, steps_tell_so};
+pub use laws::{ends_have_pulls, opening_has_pulled, pulls_go_on, steps_tell_so};

@@ -93,3 +93,16 @@ still-settled roles was now pass number settled taken = ap (λ (p : PassesValue)
 -- the pass of a session can work
 pub can-work : (roles : List Role) (f : Floor) (was now : PassesValue) (pass : PassValue) (number server : ℕ) → was.setting.roles ≡ roles → slice_get roles number ≡ Some (Session server) → HasTaken number was now pass → IsPassOf f pass → CanWork f pass
 can-work roles f was now pass number server settled at taken of = record { of = of; role = (server, role-taken roles was now pass number (Session server) settled at taken) }
+
+-- all four can work
+pub can-work-all : (h : List Dimension) (with : Use) (roles : List Role) (a b c d : ℕ) (f : Floor) (p0 p1 p2 p3 p4 : PassesValue) (w x y z : PassValue) → roles ≡ four a b c d → HasOpened h with roles f p0 → HasTaken 0 p0 p1 w → HasTaken 1 p1 p2 x
+    → HasTaken 2 p2 p3 y → HasTaken 3 p3 p4 z → IsPassOf f w → IsPassOf f x → IsPassOf f y → IsPassOf f z → (CanWork f w × CanWork f x) × (CanWork f y × CanWork f z)
+can-work-all h with roles a b c d f p0 p1 p2 p3 p4 w x y z are is_open take_w take_x take_y take_z of_w of_x of_y of_z =
+    let all = four a b c d ++ Admin ∷ [] in
+    let s0 = settled h with roles a b c d f p0 are is_open in
+    let s1 = still-settled all p0 p1 w 0 s0 take_w in
+    let s2 = still-settled all p1 p2 x 1 s1 take_x in
+    let s3 = still-settled all p2 p3 y 2 s2 take_y in (
+      (can-work all f p0 p1 w 0 a s0 refl take_w of_w, can-work all f p1 p2 x 1 b s1 refl take_x of_x),
+      (can-work all f p2 p3 y 2 c s2 refl take_y of_y, can-work all f p3 p4 z 3 d s3 refl take_z of_z),
+    )

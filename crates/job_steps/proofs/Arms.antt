@@ -1,5 +1,5 @@
 -- What an actor that holds cells for a step of its job has, and what its steps then come to.
-use Rattle.std.proofs.Common.{◌≡◌, ◌∙◌, ℕ, ◌+◌, ◌<◌, ◌≤◌, List, [], ◌∷◌, ◌++◌, length, Option, Some, refl, sym, ap, subst, arith}
+use Rattle.std.proofs.Common.{◌≡◌, ◌∙◌, ℕ, ◌<◌, ◌≤◌, List, [], ◌∷◌, ◌++◌, length, Option, Some, refl, sym, ap, subst, arith}
 use mathlib.Core.Option.{none}
 use Rattle.core_steps.specs.{Jobs.{job_places}, Places.numbers, declared.jobs.JobStep.JobStep}
 use Rattle.core_image.specs.NotesDue.{MayBeLeft}

@@ -4,3 +4,4 @@ pub mod Dues
 pub mod Ending
 pub mod Made
 pub mod Rest
+pub mod Reusing

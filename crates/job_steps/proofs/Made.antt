@@ -9,13 +9,13 @@ use Rattle.dim_hierarchy.specs.Dimension.{Dimension}
 use Rattle.job_steps.specs.{Dues.{IsAtJob, IsJobDue, IsQuiet, over_by}, Jobs.{CameTo, GoesOnWithJob, HasEndedAction, HasJobOpen, HasPassed, IsFurtherJob, always}}
 use Rattle.list_words.proofs.Elements.{Some-same}
 use Rattle.list_words.specs.Counts.{Each}
-use Rattle.row_ledger.specs.declared.{event.Event.Event, settings.How.How}
+use Rattle.row_ledger.specs.declared.{event.Event.Event}
 use Rattle.row_ledger.specs.declared.event.Event.TheVariants as event
 use Rattle.row_ledger.specs.declared.settings.How.TheVariants as how
 use Rattle.seat_steps.proofs.{Around.{around, asked-held, within}, HeldLedger.{changed, does-held, newest}, Since.{extends-on, pushed-since}}
 use Rattle.seat_steps.specs.{Booked.{HasBooked, IsUnchanged}, Floors.{AreTold, IsSeated, Stands, kept_on}, Made.{HasMade, IsKeptBy}, declared.floor.{Floor.Floor, Player.Player}}
 use Rattle.turn_table.specs.{Numbered.{Extends, after_first}, Seat.cell_count}
-use Rattle.volap_cell.specs.{AdminKinds.{DoesPostpone, Finishes, GivesUp}, Commands.after_action, Errands.way_of, ImageKinds.{Pushes, doing}, Kinds.Does, Planning.next_job, Setting.{ledger_cell, stock_cell}, ShardKinds.{ReadsLoad}, Values.{ActorValue, ErrandValue, JobValue, actor_of}, World.{Change}, declared.{actor.Actor.Actor, command.{Balance.Balance, Command.Command, Work.Work}}}
+use Rattle.volap_cell.specs.{AdminKinds.{DoesPostpone, Finishes, GivesUp}, Commands.after_action, Errands.way_of, ImageKinds.{Pushes, doing}, Kinds.Does, Planning.next_job, Setting.{ledger_cell, stock_cell}, ShardKinds.{ReadsLoad}, Values.{ActorValue, ErrandValue, JobValue, actor_of}, World.{Change}, declared.{actor.Actor.Actor, command.{Command.Command, Work.Work}}}
 use Rattle.volap_cell.specs.declared.kind.Kind.TheVariants as kind
 use Rattle.volap_cell.specs.declared.command.Work.TheVariants as work_is
 use Rattle.volap_turns.specs.Rows.{AreAt, IsThere, cells_for}

@@ -1,3 +1,4 @@
 pub mod Jobs
 pub mod Dues
 pub mod Turns
+pub mod Reuses

@@ -16,14 +16,19 @@
 //! Where memory is wanting before the shard is frozen, the command is due to end so, or the balance to leave the action;
 //! behind that the action is given up, over the stock and the ledger. What is only due, an end or an action that is left,
 //! is for the caller to make: those are steps of commands that are called.
+//!
+//! `reuse_cell` makes one step between two commands: a cell of a gate that is gone is the stock's again, over the turns of
+//! the gate, of its last block if it has one, and of the stock.
 #![tactic(auto)]
 
 mod balances;
 mod ends;
 mod jobs;
 mod looks;
+mod reuses;
 mod steps;
 mod turns;
 
 pub use jobs::go_on_with_job;
+pub use reuses::reuse_cell;
 pub use steps::JobDid;

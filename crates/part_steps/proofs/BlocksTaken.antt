@@ -155,6 +155,7 @@ module _ (f : Floor) {ys : List ℕ} {was now : Player} (seated : IsSeated f was
         servers = a.servers;
         workers = a.workers;
         inv = a.inv;
+        pulling = a.pulling;
         actor = ap w.actors (sym number) ∙ a.actor ∙ ap (λ (x : Actor). actor_of x) took.same.actor;
         there = (let there = a.there in omega arith);
         cells = a.cells;

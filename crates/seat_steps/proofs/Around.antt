@@ -30,6 +30,7 @@ module _ (f : Floor) (p : Player) where
           servers = ap (λ (x : Setting). x.servers) (sym same) ∙ seated.servers;
           workers = ap (λ (x : Setting). x.workers) (sym same) ∙ seated.workers;
           inv = can.valid.inv;
+          pulling = can.valid.pulling;
           actor = me one can;
           there = (let many = can.valid.many in let below = below_length can.actors p.number one.last (can.agrees.own p.number one.last one.has) in omega arith);
           cells = sym can.valid.wide ∙ sym can.cell_count ∙ seated.holds.wide;

@@ -84,6 +84,7 @@ around-before f {was} {now} took off s w is =
       servers = is.servers;
       workers = is.workers;
       inv = is.inv;
+      pulling = is.pulling;
       actor = ap w.actors (sym number) ∙ is.actor ∙ ap actor_of took.same.actor;
       there = subst (λ (n : ℕ). n < actor_count s) number is.there;
       cells = is.cells;
@@ -202,6 +203,7 @@ module _ (f : Floor) (was mid : Player) (row : List (Option ℕ)) {Asks : List D
         stands = stands;
         mid = mid;
         took = took;
+        seated = seated_mid;
         at = booked-at;
         made = made;
         whole = λ c e. ap (λ (x : CellValue). (ledger_in x).history) (sym ((it.2).held ledger_cell c e)) ∙ (it.2).seen c e;

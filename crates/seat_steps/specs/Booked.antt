@@ -6,7 +6,7 @@ use Rattle.core_steps.specs.Places.{numbers}
 use Rattle.dim_hierarchy.specs.Dimension.{Dimension}
 use Rattle.row_ledger.specs.{Past.{event_at, session_in}, Right.IsRight, declared.event.Event.Event}
 use Rattle.script_run.specs.Places.{begins_of}
-use Rattle.seat_steps.specs.{Floors.{IsAround, Stands}, Made.{HasMade, IsKeptBy}, Takes.Takes, declared.floor.{Floor.Floor, Player.Player}}
+use Rattle.seat_steps.specs.{Floors.{IsAround, IsSeated, Stands}, Made.{HasMade, IsKeptBy}, Takes.Takes, declared.floor.{Floor.Floor, Player.Player}}
 use Rattle.turn_table.specs.{Numbered.{Extends, numbers_of, value_of}, Seat.IsInOrder}
 use Rattle.volap_cell.specs.{Cells.CellValue, Setting.{Setting, ledger_cell, site_in}, Values.{ActorValue, actor_of}, World.World, declared.cell.Cell.Cell, declared.kind.Kind.Kind}
 use Rattle.volap_turns.specs.{Rows.AreAt, Rule.history_of}
@@ -41,6 +41,7 @@ pub record HasBooked (f : Floor) (kind : Kind) (See : Setting → World → ℕ 
   pub stands : Stands f now
   pub mid : Player
   pub took : Takes ledger_cell 8 was mid
+  pub seated : IsSeated f mid
   pub at : AreAt row mid.seat.view.held
   pub made : HasMade f.hierarchy kind See Tells row mid now
   pub whole : (c : Cell) → value_of mid.seat.view.held ledger_cell ≡ some c → history_of c ≡ mid.seat.view.seen

@@ -1,6 +1,7 @@
 -- An actor at its seat: what holds of it while it holds cells, and between its steps.
 use Rattle.std.specs.Prelude.{ℕ, ◌≡◌, ◌≢◌, ◌<◌, List, [], ◌∷◌, Option, Some, None}
 use mathlib.Core.Option.{some}
+use Rattle.core_told.specs.Pulling.{IsPulling}
 use Rattle.list_words.specs.Counts.{Each}
 use Rattle.seat_steps.specs.declared.floor.{Floor.Floor, Player.Player}
 use Rattle.turn_table.specs.{Numbered.value_of, Seat.{cell_count, free_rank}}
@@ -38,12 +39,14 @@ pub record Stands (f : Floor) (p : Player) : Type 0 where
   pub seated : IsSeated f p
   pub bare : p.seat.ranks ≡ kept_by (actor_of p.actor)
 
--- A state that the seat may be in: it meets the invariant and has the actor and the held cells, which no other actor must keep.
+-- A state that the seat may be in: it meets the invariant, open commands have pulled there as far as they say, and it has the actor and
+-- the held cells, which no other actor must keep.
 pub record IsAround (f : Floor) (p : Player) (s : Setting) (w : World) : Type 0 where
   pub about : s.hierarchy ≡ f.hierarchy
   pub servers : s.servers ≡ f.with.servers
   pub workers : s.workers ≡ f.with.workers
   pub inv : Inv s w
+  pub pulling : IsPulling s w
   pub actor : w.actors p.number ≡ actor_of p.actor
   pub there : p.number < setting.actor_count s
   pub cells : setting.cell_count s ≡ cell_count f.table

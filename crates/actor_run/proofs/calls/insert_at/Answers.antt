@@ -1,6 +1,7 @@
+use Rattle.actor_run.specs.Doing.{HasDone, HasRefused}
 use Rattle.std.proofs.Common.{ℤ, ap, subst, rules}
 use Rattle.actor_run.specs.Driving.{EndsSince}
-use Rattle.actor_run.proofs.{Ends.{insert-acked, insert-failed, insert-open, insert-refused, insert-unanswered}, Measured.measured, Sessions.{as-before, can-begin, refused-later}}
+use Rattle.actor_run.proofs.{Ends.{insert-acked, insert-failed, insert-nothing, insert-open, insert-refused, insert-unanswered}, Measured.measured, Sessions.{as-before, can-begin, refused-later}}
 use Rattle.session_steps.specs.{Begins.HasBegunInsert, declared.commands.End.End}
 use Rattle.volap_cell.specs.Values.{ActorValue}
 use Rattle.actor_run.proofs.calls.insert_at.Goals as goal
@@ -16,13 +17,6 @@ refuse-requires g c = record { session = (c.requires.session.0, (as-before c.arg
 
 pub drive-end-requires-clause-open : goal.drive-end-requires-clause-open
 drive-end-requires-clause-open g c _ _ = insert-open c.args.floor.now c.requires.session.0 c.args.player.now c.begin_insert.new.player c.requires.session.1 c.in-Ok.of c.args.at _ c.in-Ok.ensures.begun
-
-pub returns-in_default-clause-does : goal.returns-in_default-clause-does
-returns-in_default-clause-does g c names named server s =
-    let f = c.args.floor.now in
-    let was = c.args.player.now in
-    let before = as-before f server was s c.begin_insert.new.player c.in_default.ensures.same in
-    insert-refused f server was c.refuse.new.player names c.args.measures (refused-later f server was c.begin_insert.new.player c.refuse.new.player before (c.refuse.ensures.does server before.session))
 
 pub returns-in-Acked-clause-does : goal.returns-in-Acked-clause-does
 returns-in-Acked-clause-does g c names named server s =
@@ -50,3 +44,21 @@ unreachable-requires g c =
     let now = c.drive-end.new.player in
     let ended = subst (λ (r : End). EndsSince f r c.begin_insert.new.player now) c.in-Answered.is c.drive-end.ensures.ends in
     absurd (insert-unanswered f c.requires.session.0 c.args.player.now c.begin_insert.new.player c.requires.session.1 c.in-Ok.of c.args.at _ c.in-Ok.ensures.begun now _ ended)
+
+pub returns-in_err-refuse-clause-does : goal.returns-in_err-refuse-clause-does
+returns-in_err-refuse-clause-does g c names named server s =
+    let f = c.args.floor.now in
+    let was = c.args.player.now in
+    let before = as-before f server was s c.begin_insert.new.player c.in_default.ensures.same in
+    let did = refused-later c.refuse.result f server was c.begin_insert.new.player c.refuse.new.player before (c.refuse.ensures.does server before.session) in
+    insert-nothing f server was c.refuse.new.player c.from_residual.result c.from_residual.ensures.0 names c.args.measures
+    (subst (λ r. HasDone f (HasRefused r) server was c.refuse.new.player) c.in_err-refuse.was did)
+
+pub returns-in_default-clause-does : goal.returns-in_default-clause-does
+returns-in_default-clause-does g c names named server s =
+    let f = c.args.floor.now in
+    let was = c.args.player.now in
+    let before = as-before f server was s c.begin_insert.new.player c.in_default.ensures.same in
+    let did = refused-later c.refuse.result f server was c.begin_insert.new.player c.refuse.new.player before (c.refuse.ensures.does server before.session) in
+    insert-refused f server was c.refuse.new.player names c.args.measures
+    (subst (λ r. HasDone f (HasRefused r) server was c.refuse.new.player) c.in_ok-refuse.was did)

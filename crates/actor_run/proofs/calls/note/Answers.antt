@@ -1,3 +1,6 @@
+use Rattle.actor_run.proofs.Ends.{told-nothing}
+use Rattle.actor_run.specs.Doing.{HasDone, HasRefused}
+use Rattle.std.proofs.Common.{subst}
 use Rattle.std.proofs.Common.{ap}
 use Rattle.actor_run.proofs.Sessions.{as-before, refused-later, told}
 use Rattle.volap_cell.specs.Values.{ActorValue}
@@ -21,7 +24,19 @@ returns-in-Ok-clause-does g c server s = told c.args.floor.now server c.args.pla
 pub returns-in-Ok-clause-seen : goal.returns-in-Ok-clause-seen
 returns-in-Ok-clause-seen g c = ap (λ (a : ActorValue). a.seen) c.in-Ok.ensures.noted.actor
 
-pub returns-in-Err-clause-does : goal.returns-in-Err-clause-does
-returns-in-Err-clause-does g c server s =
-    let before = as-before c.args.floor.now server c.args.player.now s c.note_unknown.new.player c.in-Err.ensures.same in
-    refused-later c.args.floor.now server c.args.player.now c.note_unknown.new.player c.refuse.new.player before (c.refuse.ensures.does server before.session)
+pub returns-in_err-refuse-in-Err-clause-does : goal.returns-in_err-refuse-in-Err-clause-does
+returns-in_err-refuse-in-Err-clause-does g c server s =
+    let f = c.args.floor.now in
+    let was = c.args.player.now in
+    let before = as-before f server was s c.note_unknown.new.player c.in-Err.ensures.same in
+    let did = refused-later c.refuse.result f server was c.note_unknown.new.player c.refuse.new.player before (c.refuse.ensures.does server before.session) in
+    told-nothing f server was c.refuse.new.player c.from_residual.result c.from_residual.ensures.0 c.args.dim
+    (subst (λ r. HasDone f (HasRefused r) server was c.refuse.new.player) c.in_err-refuse-in-Err.was did)
+
+pub returns-in_ok-refuse-in-Err-clause-does : goal.returns-in_ok-refuse-in-Err-clause-does
+returns-in_ok-refuse-in-Err-clause-does g c server s =
+    let f = c.args.floor.now in
+    let was = c.args.player.now in
+    let before = as-before f server was s c.note_unknown.new.player c.in-Err.ensures.same in
+    let did = refused-later c.refuse.result f server was c.note_unknown.new.player c.refuse.new.player before (c.refuse.ensures.does server before.session) in
+    subst (λ r. HasDone f (HasRefused r) server was c.refuse.new.player) c.in_ok-refuse-in-Err.was did

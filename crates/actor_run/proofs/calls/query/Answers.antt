@@ -1,14 +1,17 @@
-use Rattle.std.proofs.Common.{ℕ, sym, subst}
-use Rattle.actor_run.specs.{Doing.Does, Sessions.{EndsQuery, IsSession}}
+use Rattle.std.proofs.Common.{◌≡◌, OnOk, IfOk, subst}
+use Rattle.actor_run.specs.{Doing.Does, Sessions.TriesQuery}
+use Rattle.actor_run.proofs.Ends.{query-nothing}
+use Rattle.dim_hierarchy.specs.Filter.{IsFilterNamed}
 use Rattle.seat_steps.specs.declared.floor.Player.{Player}
 use Rattle.actor_run.proofs.calls.query.Goals as goal
 
-pub query_with-requires-clause-session : goal.query_with-requires-clause-session
-query_with-requires-clause-session g c _ _ = subst (λ (p : Player). (server : ℕ) × IsSession c.args.floor.now server p) (sym c.in-Ok.ensures.same) c.requires.session
-
-pub query_with-requires-clause-filter : goal.query_with-requires-clause-filter
-query_with-requires-clause-filter g c _ _ = c.in-Ok.ensures.named.valid
+pub returns-in_err-picks-clause-does : goal.returns-in_err-picks-clause-does
+returns-in_err-picks-clause-does g c server s =
+    query-nothing c.args.floor.now server c.args.player.now c.filter_for.new.player c.from_residual.result c.from_residual.ensures.0 c.args.filter.now (c.in_err-picks.ensures.nothing server s)
 
 pub returns-in-Ok-clause-does : goal.returns-in-Ok-clause-does
 returns-in-Ok-clause-does g c =
-    subst (λ (p : Player). Does c.args.floor.now (EndsQuery c.query_with.result c.args.filter.now) p c.query_with.new.player) c.in-Ok.ensures.same (c.query_with.ensures.does c.args.filter.now c.in-Ok.ensures.named)
+    let f = c.args.floor.now in
+    let same = subst (λ r. OnOk r (c.filter_for.new.player ≡ c.args.player.now)) c.in-Ok.is c.in_ok-picks.ensures.same in
+    let named = subst (λ r. IfOk r (IsFilterNamed f.hierarchy c.args.filter.now)) c.in-Ok.is c.in_ok-picks.ensures.named in
+    subst (λ (p : Player). Does f (TriesQuery c.query_with.result c.args.filter.now) p c.query_with.new.player) same (c.query_with.ensures.does c.args.filter.now named)

@@ -1,6 +1,7 @@
+use Rattle.actor_run.specs.Doing.{HasDone, HasRefused}
 use Rattle.std.proofs.Common.{ap, subst}
 use Rattle.actor_run.specs.Driving.{EndsSince}
-use Rattle.actor_run.proofs.{Ends.{query-answered, query-failed, query-open, query-refused, query-unacked}, Sessions.{as-before, can-begin, refused-later}}
+use Rattle.actor_run.proofs.{Ends.{query-answered, query-failed, query-nothing, query-open, query-refused, query-unacked}, Sessions.{as-before, can-begin, refused-later}}
 use Rattle.session_steps.specs.declared.commands.End.{End}
 use Rattle.volap_cell.specs.Values.{ActorValue}
 use Rattle.actor_run.proofs.calls.query_with.Goals as goal
@@ -16,13 +17,6 @@ refuse-requires g c = record { session = (c.requires.session.0, (as-before c.arg
 
 pub drive-end-requires-clause-open : goal.drive-end-requires-clause-open
 drive-end-requires-clause-open g c _ _ = query-open c.args.floor.now c.requires.session.0 c.args.player.now c.ask.new.player c.requires.session.1 c.in-Some.of c.args.filter c.in-Some.ensures.begun
-
-pub returns-in_default-clause-does : goal.returns-in_default-clause-does
-returns-in_default-clause-does g c names named server s =
-    let f = c.args.floor.now in
-    let was = c.args.player.now in
-    let before = as-before f server was s c.ask.new.player c.in_default.ensures.same in
-    query-refused f server was c.refuse.new.player names (refused-later f server was c.ask.new.player c.refuse.new.player before (c.refuse.ensures.does server before.session))
 
 pub returns-in-Answered-clause-does : goal.returns-in-Answered-clause-does
 returns-in-Answered-clause-does g c names named server s =
@@ -48,3 +42,20 @@ unreachable-requires g c =
     let now = c.drive-end.new.player in
     let ended = subst (λ (r : End). EndsSince f r c.ask.new.player now) c.in-Acked.is c.drive-end.ensures.ends in
     absurd (query-unacked f c.requires.session.0 c.args.player.now c.ask.new.player c.requires.session.1 c.in-Some.of c.args.filter c.in-Some.ensures.begun now ended)
+
+pub returns-in_err-refuse-clause-does : goal.returns-in_err-refuse-clause-does
+returns-in_err-refuse-clause-does g c names named server s =
+    let f = c.args.floor.now in
+    let was = c.args.player.now in
+    let before = as-before f server was s c.ask.new.player c.in_default.ensures.same in
+    let did = refused-later c.refuse.result f server was c.ask.new.player c.refuse.new.player before (c.refuse.ensures.does server before.session) in
+    query-nothing f server was c.refuse.new.player c.from_residual.result c.from_residual.ensures.0 names
+    (subst (λ r. HasDone f (HasRefused r) server was c.refuse.new.player) c.in_err-refuse.was did)
+
+pub returns-in_default-clause-does : goal.returns-in_default-clause-does
+returns-in_default-clause-does g c names named server s =
+    let f = c.args.floor.now in
+    let was = c.args.player.now in
+    let before = as-before f server was s c.ask.new.player c.in_default.ensures.same in
+    let did = refused-later c.refuse.result f server was c.ask.new.player c.refuse.new.player before (c.refuse.ensures.does server before.session) in
+    query-refused f server was c.refuse.new.player names (subst (λ r. HasDone f (HasRefused r) server was c.refuse.new.player) c.in_ok-refuse.was did)

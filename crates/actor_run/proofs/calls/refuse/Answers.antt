@@ -1,5 +1,5 @@
 use Rattle.std.proofs.Common.{ap}
-use Rattle.actor_run.proofs.{Ends.as-before-on, Sessions.{refused-before, refused-noted, still-free}}
+use Rattle.actor_run.proofs.{Ends.as-before-on, Sessions.{as-before, refused-noted, still-free}}
 use Rattle.volap_cell.specs.Values.{ActorValue}
 use Rattle.actor_run.proofs.calls.refuse.Goals as goal
 
@@ -23,5 +23,5 @@ returns-in-Ok-clause-seen g c = ap (λ (a : ActorValue). a.seen) c.in-Ok.ensures
 
 pub returns-in-Err-clause-does : goal.returns-in-Err-clause-does
 returns-in-Err-clause-does g c server s =
-    refused-before c.args.floor.now server c.args.player.now c.hear.new.player s
+    as-before c.args.floor.now server c.args.player.now s c.hear.new.player
     (as-before-on c.args.floor.now c.args.player.now c.note_refused.new.player c.hear.new.player c.in-Err.ensures.same c.hear.ensures.same)

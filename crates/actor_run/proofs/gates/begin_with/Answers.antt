@@ -1,5 +1,5 @@
 use Rattle.std.proofs.Common.{◌∙◌, List, inl, sym, ap, subst}
-use Rattle.actor_run.proofs.{CursorOpen.no-answer, Ends.{query-open, query-refused}, Sessions.{as-before, can-begin, refused-later}}
+use Rattle.actor_run.proofs.{CursorOpen.no-answer, Ends.{query-open, query-stopped}, Sessions.{as-before, can-begin, refused-later}}
 use Rattle.dim_hierarchy.specs.{Filter.IsFilterNamed, declared.filter.Pick.Pick}
 use Rattle.session_steps.specs.Begins.{HasAsked}
 use Rattle.volap_cell.specs.Values.{ActorValue}
@@ -31,7 +31,7 @@ returns-in_default g c =
       begun = tt;
       refused = λ names server s. (
           let before = as-before f server was s c.ask.new.player c.in_default.ensures.same in
-          query-refused f server was c.refuse.new.player names (refused-later f server was c.ask.new.player c.refuse.new.player before (c.refuse.ensures.does server before.session))
+          query-stopped f server was c.refuse.new.player c.refuse.result names (refused-later c.refuse.result f server was c.ask.new.player c.refuse.new.player before (c.refuse.ensures.does server before.session))
           );
       no_answer = no-answer;
       seen = c.refuse.ensures.seen;

@@ -1,5 +1,4 @@
 use Rattle.std.proofs.Common.{◌∙◌, Option, IsSome, refl, sym, ap, subst}
-use Rattle.std.specs.Prelude.{is_none}
 use Rattle.job_steps.proofs.{Arms.still-before, Dues.{balance-ends, open-at}}
 use Rattle.row_ledger.specs.declared.settings.{Decline.TheVariants.Unknown, How.How, How.TheVariants.Declined}
 use Rattle.volap_cell.specs.{Commands.{EndsJob, MayNoteEnd}, ImageKinds.doing, Values.{JobValue, actor_of}, declared.command.{Command.Command, Work.Work}}

@@ -1,4 +1,4 @@
-use Rattle.std.proofs.Common.{◌≡◌, ◌∙◌, ◌-◌, ℕ, [], Option, None, Some, IsSome, refl, sym, ap, subst}
+use Rattle.std.proofs.Common.{◌≡◌, ◌∙◌, ℕ, [], Option, None, Some, IsSome, refl, sym, ap, subst}
 use Rattle.std.specs.Prelude.{option_map}
 use Rattle.core_due.specs.Look.{setting_by}
 use Rattle.job_steps.proofs.Arms.{still-before, stop-came}

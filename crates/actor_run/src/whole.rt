@@ -1,0 +1,339 @@
+//! Calls for which all passes of a hall are in: pages of the whole state, barriers and settles.
+ghost use Rattle.std.specs.Prelude.{ℕ, ◌≡◌, ◌<◌, ◌^◌, [], ◌∷◌, length, get_or, true, IfOk, IfErr, IfSome, IfNone, None, OnErr, OnOk, vec_len, vec_capacity};
+ghost use Rattle.actor_run.specs.Passes.{AreAllIn, ArePasses, IsAbout, IsAdminOf, IsPassesOf, missing, passes_of};
+ghost use Rattle.actor_run.specs.Wholes.{AddsNothing, AreToldBy, EndsIn, HaveGoneOn, HaveNotSettled, HaveSettled, HaveSettledSo, HaveShown, IsNoMemory, IsTreeFault, is_admin_at};
+ghost use Rattle.row_ledger.specs.Classes.{class_of};
+ghost use Rattle.row_ledger.specs.declared.class.Class.TheVariants as class;
+ghost use Rattle.row_ledger.specs.declared.event.Event.TheVariants.{Ended};
+ghost use Rattle.row_ledger.specs.declared.settings.Call.TheVariants.{Audit, Barrier, Shards, Tree};
+ghost use Rattle.row_ledger.specs.declared.settings.How.TheVariants.{Fine};
+ghost use Rattle.script_run.specs.Places.{begins_of};
+ghost use Rattle.turn_table.specs.Numbered.{Extends};
+ghost use Rattle.volap_cell.specs.Values.{actor_of};
+
+use crate::hall::Hall;
+use crate::passes::{Passes, put, taken};
+use row_ledger::{Call, History, Page, Subject};
+use seat_steps::Floor;
+use std::alloc::{AllocError, Global};
+use std::sync::Wait;
+use turn_table::Seat;
+use volap_cell::{Actor, Role};
+use volap_turns::Volap;
+use whole_steps::{Paged, Settled, call_barrier, call_page, call_settle, copy_history};
+
+/// Why the page of a tree isn't shown.
+#[derive(Clone, Copy)]
+pub enum TreeFault {
+    /// No such shard stands.
+    Unknown,
+    NoMemory,
+}
+
+impl Hall {
+    /// The page of the shards that stand. All passes are in, and their seat takes each cell once and gives it back.
+    pub fn shards<R: Wait>(
+        &self,
+        rt: &R,
+        alloc: Global,
+        passes: &mut Passes,
+    ) -> Result<Page, AllocError>
+        requires own { IsPassesOf self.now passes.old }
+        requires all { AreAllIn passes.old }
+        ensures on { HaveGoneOn self.now passes.old passes.new }
+        ensures shown { IfOk result (λ p. HaveShown self.now Shards p passes.old passes.new) }
+        ensures none { OnErr result (IsNoMemory Shards passes.old passes.new) }
+    {
+        match self.told(rt, alloc, passes, &Call::Shards, Subject::Shards) {
+            Paged::Page(page) => Ok(page),
+            Paged::Unknown => unreachable!(),
+            Paged::Failed | Paged::NotBegun => Err(AllocError),
+        }
+    }
+
+    /// The page of the tree of a shard. All passes are in, and their seat takes each cell once and gives it back.
+    pub fn tree<R: Wait>(
+        &self,
+        rt: &R,
+        alloc: Global,
+        passes: &mut Passes,
+        shard: u32,
+    ) -> Result<Page, TreeFault>
+        requires own { IsPassesOf self.now passes.old }
+        requires all { AreAllIn passes.old }
+        ensures on { HaveGoneOn self.now passes.old passes.new }
+        ensures shown { IfOk result (λ p. HaveShown self.now (Tree shard) p passes.old passes.new) }
+        ensures fault { IfErr result (λ fault. IsTreeFault fault (Tree shard) passes.old passes.new) }
+    {
+        let call = Call::Tree(shard);
+        match self.told(rt, alloc, passes, &call, Subject::Tree(shard)) {
+            Paged::Page(page) => Ok(page),
+            Paged::Unknown => Err(TreeFault::Unknown),
+            Paged::Failed | Paged::NotBegun => Err(TreeFault::NoMemory),
+        }
+    }
+
+    /// The aggregate of all rows, and how many shards stand. All passes are in, and their seat takes each cell once and gives it back.
+    pub fn audit<R: Wait>(
+        &self,
+        rt: &R,
+        alloc: Global,
+        passes: &mut Passes,
+    ) -> Result<Page, AllocError>
+        requires own { IsPassesOf self.now passes.old }
+        requires all { AreAllIn passes.old }
+        ensures on { HaveGoneOn self.now passes.old passes.new }
+        ensures shown { IfOk result (λ p. HaveShown self.now Audit p passes.old passes.new) }
+        ensures none { OnErr result (IsNoMemory Audit passes.old passes.new) }
+    {
+        match self.told(rt, alloc, passes, &Call::Audit, Subject::Rows) {
+            Paged::Page(page) => Ok(page),
+            Paged::Unknown => unreachable!(),
+            Paged::Failed | Paged::NotBegun => Err(AllocError),
+        }
+    }
+
+    /// A barrier, while all passes are in: its beginning and its end.
+    pub fn barrier<R: Wait>(
+        &self,
+        rt: &R,
+        alloc: Global,
+        passes: &mut Passes,
+    ) -> Result<(), AllocError>
+        requires own { IsPassesOf self.now passes.old }
+        requires all { AreAllIn passes.old }
+        ensures on { HaveGoneOn self.now passes.old passes.new }
+        ensures done { OnOk result (EndsIn Barrier (λ of. Ended of Fine ∷ []) passes.old passes.new) }
+        ensures none { OnErr result (AddsNothing passes.old passes.new) }
+    {
+        let Some(seat) = &mut passes.seat else {
+            unreachable!()
+        };
+        barrier_with(
+            rt,
+            alloc,
+            &self.floor,
+            seat,
+            &mut passes.own,
+            &mut passes.actors,
+        )
+    }
+
+    /// A settle, while all passes are in: each server pulls, in the order of their numbers, and then each once more.
+    pub fn settle<R: Wait>(
+        &self,
+        rt: &R,
+        alloc: Global,
+        passes: &mut Passes,
+    ) -> Result<(), AllocError>
+        requires own { IsPassesOf self.now passes.old }
+        requires all { AreAllIn passes.old }
+        ensures on { HaveGoneOn self.now passes.old passes.new }
+        ensures done { OnOk result (HaveSettled self.now passes.old passes.new) }
+        ensures none { OnErr result (HaveNotSettled self.now passes.old passes.new) }
+    {
+        let Some(seat) = &mut passes.seat else {
+            unreachable!()
+        };
+        let settled = settle_with(
+            rt,
+            alloc,
+            &self.floor,
+            seat,
+            &mut passes.own,
+            &mut passes.actors,
+        );
+        match settled {
+            Settled::Ok => Ok(()),
+            Settled::Failed | Settled::NotBegun => Err(AllocError),
+        }
+    }
+
+    /// `into` becomes a copy of the whole history, while all passes are in. Takes memory for it; where that is wanting, `into` is as
+    /// it was.
+    pub fn catch_up<R: Wait>(
+        &self,
+        rt: &R,
+        alloc: Global,
+        passes: &mut Passes,
+        into: &mut History,
+    ) -> Result<(), AllocError>
+        requires own { IsPassesOf self.now passes.old }
+        requires all { AreAllIn passes.old }
+        ensures on { HaveGoneOn self.now passes.old passes.new }
+        ensures whole { OnOk result (into.new ≡ passes.new.seen) }
+        ensures same { OnErr result (into.new ≡ into.old) }
+    {
+        let Some(seat) = &mut passes.seat else {
+            unreachable!()
+        };
+        copy_history(rt, alloc, &self.floor.table, seat, into)
+    }
+
+    /// The administrator calls for the page of this subject.
+    fn told<R: Wait>(
+        &self,
+        rt: &R,
+        alloc: Global,
+        passes: &mut Passes,
+        call: &Call,
+        subject: Subject,
+    ) -> Paged
+        requires own { IsPassesOf self.now passes.old }
+        requires all { AreAllIn passes.old }
+        requires class { class_of call.now ≡ class.Page subject }
+        ensures on { HaveGoneOn self.now passes.old passes.new }
+        ensures told { AreToldBy self.now call.now result passes.old passes.new }
+    {
+        let Some(seat) = passes.seat.take() else {
+            unreachable!()
+        };
+        let (seat, told) = page_with(
+            rt,
+            alloc,
+            &self.floor,
+            seat,
+            &mut passes.own,
+            &mut passes.actors,
+            call,
+            subject,
+        );
+        passes.seat = Some(seat);
+        told
+    }
+}
+
+/// Whether the administrator stands at a place.
+fn is_admin_at(place: &Option<Actor>) -> bool
+    ensures { result ≡ is_admin_at place.now }
+{
+    match place {
+        Some(actor) => matches!(actor.role, Role::Admin),
+        None => false,
+    }
+}
+
+/// How many actors have roles, which is the number of the hall's own.
+fn own_number(actors: &Vec<Option<Actor>>) -> u32
+    requires few { length actors.now.items < 2 ^ 16 }
+    ensures { result ≡ length actors.now.items }
+{
+    actors.len() as u32
+}
+
+/// The place of the administrator among the actors of the roles; `None` where the hall's own is that.
+fn admin_among(actors: &Vec<Option<Actor>>) -> Option<u32>
+    requires few { length actors.now.items < 2 ^ 16 }
+    ensures some { IfSome result (λ k. (k < length actors.now.items) × (is_admin_at (get_or actors.now.items k None) ≡ true)) }
+    ensures none { IfNone result ((k : ℕ) → k < length actors.now.items → is_admin_at (get_or actors.now.items k None) ≡ true → ⊥) }
+{
+    for at in 0..actors.len() {
+        if is_admin_at(&actors[at]) {
+            return Some(at as u32);
+        }
+    }
+    None
+}
+
+/// The administrator, who is one of these, calls for the page of this subject.
+fn page_with<R: Wait>(
+    rt: &R,
+    alloc: Global,
+    floor: &Floor,
+    seat: Seat<Volap>,
+    own: &mut Actor,
+    actors: &mut Vec<Option<Actor>>,
+    call: &Call,
+    subject: Subject,
+) -> (Seat<Volap>, Paged)
+    requires are { ArePasses seat own.old actors.old.items }
+    requires all { missing 0 actors.old.items ≡ [] }
+    requires about { IsAbout floor.now seat.table_id (actor_of own.old).setting }
+    requires class { class_of call.now ≡ class.Page subject }
+    ensures are { ArePasses result.0 own.new actors.new.items }
+    ensures all { missing 0 actors.new.items ≡ [] }
+    ensures room { (vec_len actors.new ≡ vec_len actors.old) × (vec_capacity actors.new ≡ vec_capacity actors.old) }
+    ensures table { result.0.table_id ≡ seat.table_id }
+    ensures setting { (actor_of own.new).setting ≡ (actor_of own.old).setting }
+    ensures later { Extends result.0.view.seen seat.view.seen }
+    ensures others { (k : ℕ) → (IsAdminOf (actor_of own.old).setting k → ⊥) → begins_of result.0.view.seen k ≡ begins_of seat.view.seen k }
+    ensures told { AreToldBy floor.now call.now result.1 (passes_of seat own.old actors.old.items) (passes_of result.0 own.new actors.new.items) }
+{
+    let Some(number) = admin_among(actors) else {
+        let number = own_number(actors);
+        return call_page(rt, alloc, floor, seat, number, own, call, subject);
+    };
+    let Some(mut actor) = taken(actors, number) else {
+        unreachable!()
+    };
+    let (seat, told) = call_page(rt, alloc, floor, seat, number, &mut actor, call, subject);
+    put(actors, number, actor);
+    (seat, told)
+}
+
+/// The administrator, who is one of these, calls a barrier.
+fn barrier_with<R: Wait>(
+    rt: &R,
+    alloc: Global,
+    floor: &Floor,
+    seat: &mut Seat<Volap>,
+    own: &mut Actor,
+    actors: &mut Vec<Option<Actor>>,
+) -> Result<(), AllocError>
+    requires are { ArePasses seat.old own.old actors.old.items }
+    requires all { missing 0 actors.old.items ≡ [] }
+    requires about { IsAbout floor.now seat.old.table_id (actor_of own.old).setting }
+    ensures are { ArePasses seat.new own.new actors.new.items }
+    ensures all { missing 0 actors.new.items ≡ [] }
+    ensures room { (vec_len actors.new ≡ vec_len actors.old) × (vec_capacity actors.new ≡ vec_capacity actors.old) }
+    ensures table { seat.new.table_id ≡ seat.old.table_id }
+    ensures setting { (actor_of own.new).setting ≡ (actor_of own.old).setting }
+    ensures later { Extends seat.new.view.seen seat.old.view.seen }
+    ensures others { (k : ℕ) → (IsAdminOf (actor_of own.old).setting k → ⊥) → begins_of seat.new.view.seen k ≡ begins_of seat.old.view.seen k }
+    ensures done { OnOk result (EndsIn Barrier (λ of. Ended of Fine ∷ []) (passes_of seat.old own.old actors.old.items) (passes_of seat.new own.new actors.new.items)) }
+    ensures none { OnErr result (AddsNothing (passes_of seat.old own.old actors.old.items) (passes_of seat.new own.new actors.new.items)) }
+{
+    let Some(number) = admin_among(actors) else {
+        let number = own_number(actors);
+        return call_barrier(rt, alloc, floor, seat, number, own);
+    };
+    let Some(mut actor) = taken(actors, number) else {
+        unreachable!()
+    };
+    let done = call_barrier(rt, alloc, floor, seat, number, &mut actor);
+    put(actors, number, actor);
+    done
+}
+
+/// The administrator, who is one of these, calls a settle.
+fn settle_with<R: Wait>(
+    rt: &R,
+    alloc: Global,
+    floor: &Floor,
+    seat: &mut Seat<Volap>,
+    own: &mut Actor,
+    actors: &mut Vec<Option<Actor>>,
+) -> Settled
+    requires are { ArePasses seat.old own.old actors.old.items }
+    requires all { missing 0 actors.old.items ≡ [] }
+    requires about { IsAbout floor.now seat.old.table_id (actor_of own.old).setting }
+    ensures are { ArePasses seat.new own.new actors.new.items }
+    ensures all { missing 0 actors.new.items ≡ [] }
+    ensures room { (vec_len actors.new ≡ vec_len actors.old) × (vec_capacity actors.new ≡ vec_capacity actors.old) }
+    ensures table { seat.new.table_id ≡ seat.old.table_id }
+    ensures setting { (actor_of own.new).setting ≡ (actor_of own.old).setting }
+    ensures later { Extends seat.new.view.seen seat.old.view.seen }
+    ensures others { (k : ℕ) → (IsAdminOf (actor_of own.old).setting k → ⊥) → begins_of seat.new.view.seen k ≡ begins_of seat.old.view.seen k }
+    ensures settled { HaveSettledSo floor.now result (passes_of seat.old own.old actors.old.items) (passes_of seat.new own.new actors.new.items) }
+{
+    let Some(number) = admin_among(actors) else {
+        let number = own_number(actors);
+        return call_settle(rt, alloc, floor, seat, number, own);
+    };
+    let Some(mut actor) = taken(actors, number) else {
+        unreachable!()
+    };
+    let settled = call_settle(rt, alloc, floor, seat, number, &mut actor);
+    put(actors, number, actor);
+    settled
+}

@@ -1,0 +1,11 @@
+//! The administrator and the puller of a hall: splits, moves, balances and pulls of servers, each one call on a thread of its
+//! caller.
+#![tactic(auto)]
+
+mod admin;
+mod calls;
+mod driving;
+mod puller;
+
+pub use admin::Admin;
+pub use puller::{Puller, Synced};

@@ -1,0 +1,45 @@
+use Rattle.std.proofs.Common.{ℕ, ◌<◌, ◌≡◌, List, [], ◌∷◌, ◌++◌, None, Some, Option, refl, sym, ap, ◌∙◌, subst, arith}
+use mathlib.Core.Option.{none}
+use Rattle.core_steps.specs.declared.reuses.ReuseStep.TheVariants as reuse
+use Rattle.job_steps.proofs.{Arms.{order-second, room-second}, Reusing.{between-since, next-reused, released-still, reuse-at, reuse-due}}
+use Rattle.seat_steps.proofs.Since.{unchanged, unchanged-on}
+use Rattle.turn_table.specs.{Numbered.value_of, Seat.cell_count}
+use Rattle.volap_cell.specs.Setting.{stock_cell}
+use Rattle.job_steps.proofs.reuses.reuse_gate.Goals as goal
+
+pub take-requires-clause-cell : goal.take-requires-clause-cell
+take-requires-clause-cell g c =
+    let f = c.args.floor.now in
+    let p = c.args.player.now in
+    subst (λ (k : ℕ). k < cell_count f.table) (sym c.stock_place.ensures)
+    (next-reused f p c.requires.seated (reuse.Gate c.args.gate) (reuse-due f p c.requires.between c.args.gate None c.requires.released) ((c.args.gate, Some 2) ∷ []) c.requires.held stock_cell [] refl).0
+
+pub take-requires-clause-other : goal.take-requires-clause-other
+take-requires-clause-other g c =
+    let f = c.args.floor.now in
+    let p = c.args.player.now in
+    subst (λ (k : ℕ). value_of p.seat.view.held k ≡ none) (sym c.stock_place.ensures)
+    (next-reused f p c.requires.seated (reuse.Gate c.args.gate) (reuse-due f p c.requires.between c.args.gate None c.requires.released) ((c.args.gate, Some 2) ∷ []) c.requires.held stock_cell [] refl).1
+
+pub take-requires-clause-rank : goal.take-requires-clause-rank
+take-requires-clause-rank g c = order-second c.args.floor.now c.args.player.now c.requires.seated c.args.gate 2 c.requires.held c.stock_place.result 7 (omega arith)
+
+pub take-requires-clause-room : goal.take-requires-clause-room
+take-requires-clause-room g c = room-second c.args.floor.now c.args.player.now c.requires.seated c.args.gate 2 c.requires.held
+
+pub make_reuse-requires-clause-between : goal.make_reuse-requires-clause-between
+make_reuse-requires-clause-between g c = between-since (unchanged c.take.ensures.took.same) c.requires.between
+
+pub make_reuse-requires-clause-due : goal.make_reuse-requires-clause-due
+make_reuse-requires-clause-due g c =
+    let took = c.take.ensures.took in
+    reuse-due c.args.floor.now c.take.new.player (between-since (unchanged took.same) c.requires.between) c.args.gate None (released-still took c.args.gate None c.requires.released)
+
+pub make_reuse-requires-clause-at : goal.make_reuse-requires-clause-at
+make_reuse-requires-clause-at g c =
+    let held = c.take.ensures.took.ranks ∙ ap (λ (l : List (ℕ × Option ℕ)). l ++ (c.stock_place.result, Some 7) ∷ []) c.requires.held in
+    reuse-at c.args.floor.now c.take.new.player c.take.ensures.seated (reuse.Gate c.args.gate) (make_reuse-requires-clause-due g c) ((c.args.gate, Some 2) ∷ (c.stock_place.result, Some 7) ∷ []) held
+    (ap (λ (k : ℕ). c.args.gate ∷ k ∷ []) c.stock_place.ensures)
+
+pub returns : goal.returns
+returns g c = record { reused = λ p same. c.make_reuse.ensures.reused p (unchanged-on same (unchanged c.take.ensures.took.same)) }

@@ -1,0 +1,6 @@
+pub mod Called
+pub mod Done
+pub mod Turns
+pub mod Coming
+pub mod Sent
+pub mod Passing

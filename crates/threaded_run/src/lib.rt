@@ -1,0 +1,10 @@
+//! A phase of a script over a hall, each actor on a thread of its own where one can be made.
+#![tactic(auto)]
+
+mod callers;
+mod jobs;
+mod phases;
+mod sessions;
+mod threads;
+
+pub use phases::run_together;

@@ -1,0 +1,122 @@
+//! How commands that are called at the seat that has all actors begin, show their pages and end.
+ghost use Rattle.std.specs.Prelude.{◌≡◌, true, false, OnErr, OnOk};
+ghost use Rattle.call_steps.specs.Calls.{CanCall, CanEndCall};
+ghost use Rattle.row_ledger.specs.Classes.{class_of};
+ghost use Rattle.volap_cell.specs.ImageKinds.{asks_registry};
+ghost use Rattle.whole_steps.specs.Commands.{CanShow, HasCalledSole, HasEndedSole, HasShownSole};
+ghost use Rattle.whole_steps.specs.Sole.{HasWaited, StandsSole, player};
+
+use crate::adds::add;
+use crate::turns::take_turn;
+use call_steps::asks_registry;
+use core_steps::{NoteStep, registry_place};
+use row_ledger::{Call, How, Page};
+use seat_steps::Floor;
+use std::alloc::{AllocError, Global};
+use std::sync::Wait;
+use turn_table::Seat;
+use volap_cell::Actor;
+use volap_turns::Volap;
+
+/// The rank that is told for the registry.
+pub(crate) const REGISTRY: u8 = 6;
+
+/// The actor begins the call. Where memory is wanting, nothing changes.
+pub fn begin_call<R: Wait>(
+    rt: &R,
+    alloc: Global,
+    floor: &Floor,
+    seat: &mut Seat<Volap>,
+    number: u32,
+    actor: &mut Actor,
+    call: &Call,
+) -> Result<(), AllocError>
+    requires stands { StandsSole floor.now (player number actor.old seat.old) }
+    requires begins { CanCall floor.now call.now (player number actor.old seat.old) }
+    ensures begun { OnOk result (HasCalledSole floor.now call.now (player number actor.old seat.old) (player number actor.new seat.new)) }
+    ensures same { OnErr result (HasWaited floor.now (player number actor.old seat.old) (player number actor.new seat.new)) }
+{
+    if asks_registry(call.class()) {
+        begin_asking(rt, alloc, floor, seat, number, actor, call)
+    } else {
+        begin_alone(rt, alloc, floor, seat, number, actor, call)
+    }
+}
+
+/// The same for a call that asks nothing of the registry.
+fn begin_alone<R: Wait>(
+    rt: &R,
+    alloc: Global,
+    floor: &Floor,
+    seat: &mut Seat<Volap>,
+    number: u32,
+    actor: &mut Actor,
+    call: &Call,
+) -> Result<(), AllocError>
+    requires stands { StandsSole floor.now (player number actor.old seat.old) }
+    requires begins { CanCall floor.now call.now (player number actor.old seat.old) }
+    requires alone { asks_registry (class_of call.now) ≡ false }
+    ensures begun { OnOk result (HasCalledSole floor.now call.now (player number actor.old seat.old) (player number actor.new seat.new)) }
+    ensures same { OnErr result (HasWaited floor.now (player number actor.old seat.old) (player number actor.new seat.new)) }
+{
+    let step = NoteStep::Called { call };
+    add(rt, alloc, floor, seat, number, actor, step)
+}
+
+/// The same for a call that asks the registry what stands.
+fn begin_asking<R: Wait>(
+    rt: &R,
+    alloc: Global,
+    floor: &Floor,
+    seat: &mut Seat<Volap>,
+    number: u32,
+    actor: &mut Actor,
+    call: &Call,
+) -> Result<(), AllocError>
+    requires stands { StandsSole floor.now (player number actor.old seat.old) }
+    requires begins { CanCall floor.now call.now (player number actor.old seat.old) }
+    requires asks { asks_registry (class_of call.now) ≡ true }
+    ensures begun { OnOk result (HasCalledSole floor.now call.now (player number actor.old seat.old) (player number actor.new seat.new)) }
+    ensures same { OnErr result (HasWaited floor.now (player number actor.old seat.old) (player number actor.new seat.new)) }
+{
+    take_turn(rt, &floor.table, seat, registry_place(), REGISTRY);
+    let workers = floor.with.workers;
+    let step = NoteStep::Asking { call, workers };
+    add(rt, alloc, floor, seat, number, actor, step)
+}
+
+/// The page that is due of the actor's command is shown, which is one of the state that the seat knows. Takes no memory.
+pub fn show<R: Wait>(
+    rt: &R,
+    alloc: Global,
+    floor: &Floor,
+    seat: &mut Seat<Volap>,
+    number: u32,
+    actor: &mut Actor,
+    page: Page,
+)
+    requires stands { StandsSole floor.now (player number actor.old seat.old) }
+    requires shows { CanShow floor.now page (player number actor.old seat.old) }
+    ensures shown { HasShownSole floor.now page (player number actor.old seat.old) (player number actor.new seat.new) }
+{
+    let step = NoteStep::Shown { page };
+    let _ = add(rt, alloc, floor, seat, number, actor, step);
+}
+
+/// The actor's command ends so. Takes no memory.
+pub fn end_call<R: Wait>(
+    rt: &R,
+    alloc: Global,
+    floor: &Floor,
+    seat: &mut Seat<Volap>,
+    number: u32,
+    actor: &mut Actor,
+    how: How,
+)
+    requires stands { StandsSole floor.now (player number actor.old seat.old) }
+    requires ends { CanEndCall floor.now how (player number actor.old seat.old) }
+    ensures ended { HasEndedSole floor.now how (player number actor.old seat.old) (player number actor.new seat.new) }
+{
+    let step = NoteStep::Ended { how };
+    let _ = add(rt, alloc, floor, seat, number, actor, step);
+}
