@@ -11,7 +11,7 @@ use Rattle.atomic_table.specs.Seated.{TableId}
 use Rattle.call_steps.proofs.OpenCalls.{extends-length}
 use Rattle.call_steps.specs.Calls.{CanCall}
 use Rattle.list_words.proofs.Elements.{Some-same}
-use Rattle.row_ledger.specs.{Classes.class_of, Right.IsRight, declared.class.Class.Class, declared.class.Subject.Subject, declared.event.Event.Event, declared.event.Event.TheVariants.{Called, Ended, Shown}, declared.settings.Call.Call}
+use Rattle.row_ledger.specs.{Classes.class_of, Right.IsRight, Site.Site, declared.class.Class.Class, declared.class.Subject.Subject, declared.event.Event.Event, declared.event.Event.TheVariants.{Called, Ended, Shown}, declared.settings.Call.Call}
 use Rattle.row_ledger.specs.declared.class.Class.TheVariants as class
 use Rattle.row_ledger.specs.declared.settings.Call.TheVariants.{Settle}
 use Rattle.row_ledger.specs.declared.settings.Decline.TheVariants as decline
@@ -361,14 +361,17 @@ module _ {s : S} {own : Actor} {actors : List (Option Actor)} (are : ArePasses s
     put-back out put y taken given = given ∙ ap (λ (l : List (Option Actor)). set l n (Some y)) taken ∙ set-set actors n None (Some y)
 
 -- All passes are in still.
-pub gone-on : (f : Floor) (v : PassesValue) (s t : S) (own own_now : Actor) (actors now : List (Option Actor)) → passes_of s own actors ≡ v → IsPassesOf f v → AreAllIn v → missing 0 now ≡ [] → t.table_id ≡ s.table_id → (actor_of own_now).setting ≡ (actor_of own).setting → Extends t.view.seen s.view.seen
-    → ((k : ℕ) → (IsAdminOf (actor_of own).setting k → ⊥) → begins_of t.view.seen k ≡ begins_of s.view.seen k) → HaveGoneOn f v (passes_of t own_now now)
-gone-on f v s t own own_now actors now view of all all_now table setting later others =
-    subst (λ (z : PassesValue). IsPassesOf f z → AreAllIn z → HaveGoneOn f z (passes_of t own_now now)) view (λ mine in_all. record {
-      own = subst (λ (z : TableId × Setting). IsAbout f z.0 z.1) (λ i. (sym table i, sym setting i)) mine;
+pub gone-on : (f : Floor) (v : PassesValue) (s t : S) (own own_now : Actor) (actors now : List (Option Actor)) → passes_of s own actors ≡ v → IsPassesOf f v → AreAllIn v → ArePasses t own_now now → missing 0 now ≡ [] → t.table_id ≡ s.table_id → (actor_of own_now).setting ≡ (actor_of own).setting
+    → Extends t.view.seen s.view.seen → ((k : ℕ) → (IsAdminOf (actor_of own).setting k → ⊥) → begins_of t.view.seen k ≡ begins_of s.view.seen k) → HaveGoneOn f v (passes_of t own_now now)
+gone-on f v s t own own_now actors now view of all are all_now table setting later others =
+    subst (λ (z : PassesValue). IsPassesOf f z → AreAllIn z → HaveGoneOn f z (passes_of t own_now now)) view (λ mine in_all.
+    let own_is : IsAbout f t.table_id (actor_of own_now).setting = subst (λ (z : TableId × Setting). IsAbout f z.0 z.1) (λ i. (sym table i, sym setting i)) mine in
+    record {
+      own = own_is;
       all = all_now;
       same = λ i. record { table = table i; setting = setting i; out = (all_now ∙ sym in_all) i; seen = t.view.seen };
       later = later;
+      right = subst (λ (x : Site). IsRight x t.view.seen) (λ i. record { hierarchy = own_is.hierarchy i; servers = own_is.servers i; workers = own_is.workers i }) are.right;
       others = others;
     }) of all
 

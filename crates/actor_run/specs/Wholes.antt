@@ -3,7 +3,7 @@ use Rattle.std.specs.Prelude.{ℕ, ◌≡◌, ◌+◌, ◌<◌, ◌⊎◌, Bool,
 use Rattle.actor_run.specs.{Halls.is_admin, Passes.{AreAllIn, IsAdminOf, IsPassesOf, PassesValue}}
 use Rattle.actor_run.specs.declared.whole.TreeFault.{TreeFault}
 use Rattle.actor_run.specs.declared.whole.TreeFault.TheVariants as fault
-use Rattle.row_ledger.specs.{declared.event.Event.Event, declared.page.Page.Page, declared.settings.Call.Call}
+use Rattle.row_ledger.specs.{Right.IsRight, Site.site_of, declared.event.Event.Event, declared.page.Page.Page, declared.settings.Call.Call}
 use Rattle.row_ledger.specs.declared.event.Event.TheVariants.{Called, Ended, Shown}
 use Rattle.row_ledger.specs.declared.settings.Call.TheVariants.{Settle}
 use Rattle.row_ledger.specs.declared.settings.Decline.TheVariants as decline
@@ -23,13 +23,14 @@ abbrev pub is_admin_at : Option Actor → Bool
 is_admin_at None = false
 is_admin_at (Some x) = is_admin (actor_of x).role
 
--- All passes are in still, and what they had seen is the oldest part of what they have seen then. Nobody but the administrator has begun
--- anything.
+-- All passes are in still, and what they had seen is the oldest part of what they have seen then, which is right. Nobody but the
+-- administrator has begun anything.
 pub record HaveGoneOn (f : Floor) (was now : PassesValue) : Type 0 where
   pub own : IsPassesOf f now
   pub all : AreAllIn now
   pub same : now ≡ record was { seen = now.seen }
   pub later : Extends now.seen was.seen
+  pub right : IsRight (site_of f.with f.hierarchy) now.seen
   pub others : (k : ℕ) → (IsAdminOf was.setting k → ⊥) → begins_of now.seen k ≡ begins_of was.seen k
 
 -- The newest events are those of the administrator's call: its beginning, and these behind it. Before them stands what had been seen, or more,

@@ -132,21 +132,30 @@ impl Hall {
         ensures done { OnOk result (HaveSettled self.now passes.old passes.new) }
         ensures none { OnErr result (HaveNotSettled self.now passes.old passes.new) }
     {
+        match self.settled(rt, alloc, passes) {
+            Settled::Ok => Ok(()),
+            Settled::Failed | Settled::NotBegun => Err(AllocError),
+        }
+    }
+
+    /// The same, and where memory is wanting, whether anything of it stands in the history.
+    pub fn settled<R: Wait>(&self, rt: &R, alloc: Global, passes: &mut Passes) -> Settled
+        requires own { IsPassesOf self.now passes.old }
+        requires all { AreAllIn passes.old }
+        ensures on { HaveGoneOn self.now passes.old passes.new }
+        ensures settled { HaveSettledSo self.now result passes.old passes.new }
+    {
         let Some(seat) = &mut passes.seat else {
             unreachable!()
         };
-        let settled = settle_with(
+        settle_with(
             rt,
             alloc,
             &self.floor,
             seat,
             &mut passes.own,
             &mut passes.actors,
-        );
-        match settled {
-            Settled::Ok => Ok(()),
-            Settled::Failed | Settled::NotBegun => Err(AllocError),
-        }
+        )
     }
 
     /// `into` becomes a copy of the whole history, while all passes are in. Takes memory for it; where that is wanting, `into` is as
@@ -170,8 +179,8 @@ impl Hall {
         copy_history(rt, alloc, &self.floor.table, seat, into)
     }
 
-    /// The administrator calls for the page of this subject.
-    fn told<R: Wait>(
+    /// The page of this subject, for which the administrator makes this call while all passes are in; where there is none, why.
+    pub fn told<R: Wait>(
         &self,
         rt: &R,
         alloc: Global,

@@ -4,3 +4,5 @@ pub mod Turns
 pub mod Coming
 pub mod Sent
 pub mod Passing
+pub mod WholeCalls
+pub mod OnePhase

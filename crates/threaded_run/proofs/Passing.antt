@@ -11,7 +11,7 @@ use Rattle.session_runs.proofs.Later.{later-then}
 use Rattle.session_runs.specs.Sessions.{BeginsNothing, DoesFirst, DoesInTurn, stream_of}
 use Rattle.threaded_run.proofs.{Coming.{came-on, no-stream}, Turns.nothing-then}
 use Rattle.threaded_run.specs.{Jobs.{HasCome, IsJobReady}, Phases.{AreBack, ArePhased, HasGivenJob, HasGivenSome, HasTakenAll, HasTakenSome, IsNumbered}, Streams.AllFit, declared.threads.Job.Job}
-use Rattle.volap_cell.specs.{Setting.{Setting, actor_count}, declared.role.Role.Role}
+use Rattle.volap_cell.specs.{Setting.{Setting, actor_count}, declared.role.{Role.Role, Role.TheVariants.Puller}}
 
 -- Out.
 
@@ -110,7 +110,7 @@ module _ (f : Floor) (was : PassesValue) (phased : ArePhased f was) where
 
 module _ (f : Floor) (n : ℕ) (commands : List Command) (past now : List Event) where
   -- who has done all has done the first
-  came-weaker : (a b : Bool) → (a ≡ true → b ≡ true) → HasCome a f n commands past now → HasCome b f n commands past now
+  pub came-weaker : (a b : Bool) → (a ≡ true → b ≡ true) → HasCome a f n commands past now → HasCome b f n commands past now
   came-weaker true true more came = came
   came-weaker true false more came = absurd (false≢true (more refl))
   came-weaker false false more came = came
@@ -194,6 +194,7 @@ module _ (f : Floor) (commands : List Command) (was : PassesValue) where
         all = all-in;
         many = subst (λ (s : Setting). f.with.servers + 3 ≤ actor_count s) (sym some.setting) phased.many;
         roles = subst (λ (s : Setting). (n : ℕ) (r : Role) → n + 1 < actor_count s → slice_get s.roles n ≡ Some r → IsNumbered r f n) (sym some.setting) phased.roles;
+        last = subst (λ (s : Setting). (n : ℕ) → n + 1 ≡ actor_count s → slice_get s.roles n ≡ Some Puller) (sym some.setting) phased.last;
       };
       later = some.later;
     }

@@ -1,10 +1,12 @@
 -- A phase whose commands go all at once: what is asked of the passes before it, and what has become of them.
-use Rattle.std.specs.Prelude.{ℕ, ◌≡◌, ◌==◌, ◌+◌, ◌<◌, ◌≤◌, Bool, List, length, count_by, Some, slice_get}
+use Rattle.std.specs.Prelude.{ℕ, ◌≡◌, ◌==◌, ◌+◌, ◌<◌, ◌≤◌, Bool, List, ◌++◌, length, count_by, Some, slice_get}
 use Rattle.actor_run.specs.Passes.{AreAllIn, HasGiven, IsPassesOf, PassValue, PassesValue}
-use Rattle.row_ledger.specs.declared.event.Event.{Event}
+use Rattle.dim_hierarchy.specs.Dimension.{Dimension}
+use Rattle.row_ledger.specs.declared.{event.Event.Event, settings.Use.Use}
 use Rattle.script_form.specs.declared.script.Command.{Command}
 use Rattle.seat_steps.specs.declared.floor.Floor.{Floor}
-use Rattle.session_runs.specs.Sessions.{BeginsNothing}
+use Rattle.script_run.specs.Streams.{NoneCloses}
+use Rattle.session_runs.specs.Sessions.{BeginsNothing, EachDoesFirst}
 use Rattle.threaded_run.specs.{Jobs.{AreJobsReady, HasCome}, declared.threads.Job.Job}
 use Rattle.turn_table.specs.Numbered.{Extends}
 use Rattle.volap_cell.specs.{Setting.actor_count, declared.role.Role.Role}
@@ -17,12 +19,14 @@ IsNumbered role.Puller f n = n ≡ f.with.servers
 IsNumbered role.Admin f n = n ≡ f.with.servers + 1
 IsNumbered (role.Hand worker) f n = f.with.servers + 1 < n
 
--- The passes are those of a hall with a session for each server, then a puller, an administrator, and hands; all are in.
+-- The passes are those of a hall with a session for each server, then a puller, an administrator, and hands; all are in. The hall's own actor
+-- is a puller.
 pub record ArePhased (f : Floor) (p : PassesValue) : Type 0 where
   pub own : IsPassesOf f p
   pub all : AreAllIn p
   pub many : f.with.servers + 3 ≤ actor_count p.setting
   pub roles : (n : ℕ) (r : Role) → n + 1 < actor_count p.setting → slice_get p.setting.roles n ≡ Some r → IsNumbered r f n
+  pub last : (n : ℕ) → n + 1 ≡ actor_count p.setting → slice_get p.setting.roles n ≡ Some role.Puller
 
 -- all are in again, and have seen more
 pub record AreBack (f : Floor) (was now : PassesValue) : Type 0 where
@@ -61,3 +65,11 @@ pub record HasGivenJob (f : Floor) (n : ℕ) (commands : List Command) (past : L
   pub number : pass.number ≡ n
   pub came : HasCome stopped f n commands past pass.seen
   pub given : HasGiven pass was now
+
+-- Memory was wanting in a phase: of its commands in front of one that closes it each session has done the first of its own.
+pub record StopsInPhase (with : Use) (h : List Dimension) (phase : List Command) (past now : List Event) : Type 0 where
+  pub front : List Command
+  pub more : List Command
+  pub split : phase ≡ front ++ more
+  pub none_closes : NoneCloses front
+  pub first : EachDoesFirst with h front past now

@@ -1,5 +1,5 @@
 -- The commands of a phase, by who does them.
-use Rattle.std.specs.Prelude.{ℕ, ◌≡◌, ◌<◌, false, List, [], Some, slice_get}
+use Rattle.std.specs.Prelude.{ℕ, ◌≡◌, ◌+◌, ◌<◌, true, false, List, [], length, Some, slice_get}
 use Rattle.actor_run.specs.Sessions.{SessionValue}
 use Rattle.row_ledger.specs.declared.event.Event.{Event}
 use Rattle.script_form.specs.{Fits.Fits, declared.script.Command.Command}
@@ -31,3 +31,7 @@ DoesAll f n commands past now = DoesInTurn f.with f.hierarchy n (stream_of f.wit
 
 abbrev pub DoesSome : Floor → ℕ → List Command → (past now : List Event) → Type 0
 DoesSome f n commands past now = DoesFirst f.with f.hierarchy n (stream_of f.with commands n) past now
+
+-- the last command alone may close the phase
+abbrev pub ClosesLast : List Command → Type 0
+ClosesLast phase = (i : ℕ) (c : Command) → slice_get phase i ≡ Some c → closes c ≡ true → i + 1 ≡ length phase

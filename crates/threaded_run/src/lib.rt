@@ -2,9 +2,12 @@
 #![tactic(auto)]
 
 mod callers;
+mod closing;
 mod jobs;
+mod phase;
 mod phases;
 mod sessions;
 mod threads;
 
+pub use phase::run_phase;
 pub use phases::run_together;

@@ -16,5 +16,5 @@ invariant_of-passes g c =
 
 pub returns-clause-on : goal.returns-clause-on
 returns-clause-on g c =
-    gone-on c.args.self.now c.args.passes.now c.in-Some.seat c.copy_history.new.seat c.passes.inside.own c.passes.inside.own c.passes.inside.actors.items c.passes.inside.actors.items (here-view c.in-Some.is c.passes.inside.own c.passes.inside.actors.items c.passes.view_is) c.requires.own c.requires.all (ap (λ (p : PassesValue). p.out) (here-view c.in-Some.is c.passes.inside.own c.passes.inside.actors.items c.passes.view_is) ∙ c.requires.all) c.copy_history.ensures.turned.table refl c.copy_history.ensures.turned.seen
+    gone-on c.args.self.now c.args.passes.now c.in-Some.seat c.copy_history.new.seat c.passes.inside.own c.passes.inside.own c.passes.inside.actors.items c.passes.inside.actors.items (here-view c.in-Some.is c.passes.inside.own c.passes.inside.actors.items c.passes.view_is) c.requires.own c.requires.all (invariant_of-passes g c).0 (ap (λ (p : PassesValue). p.out) (here-view c.in-Some.is c.passes.inside.own c.passes.inside.actors.items c.passes.view_is) ∙ c.requires.all) c.copy_history.ensures.turned.table refl c.copy_history.ensures.turned.seen
     (λ k other. begun-none (here-are c.in-Some.is c.passes.inside.own c.passes.inside.actors.items c.passes.invariant.0) (ap (λ (p : PassesValue). p.out) (here-view c.in-Some.is c.passes.inside.own c.passes.inside.actors.items c.passes.view_is) ∙ c.requires.all) c.self.inside.floor (subst (λ (x : Floor × PassesValue). IsPassesOf x.0 x.1) (λ i. (sym c.self.view_is i, sym (here-view c.in-Some.is c.passes.inside.own c.passes.inside.actors.items c.passes.view_is) i)) c.requires.own) c.copy_history.new.seat c.copy_history.ensures.everyone c.copy_history.ensures.turned k)
