@@ -7,8 +7,8 @@ ghost use Rattle.olap_top.specs.Outcomes.{schedule_of};
 ghost use Rattle.answer_text.specs.Summary.{summary};
 ghost use Rattle.dim_hierarchy.specs.Dimension.{Dimension};
 ghost use Rattle.row_ledger.specs.declared.settings.Use as settings;
+ghost use Rattle.script_roles.specs.Roles.{CanOpen};
 ghost use Rattle.seeded_run.specs.Phase.{ClosesLast, IsCoreHeld, MayAllRun, held};
-ghost use Rattle.seeded_run.specs.Roles.{CanOpen};
 ghost use Rattle.volap_cell.specs.Steps.{history_in};
 
 use crate::wanted::Wanted;

@@ -1,10 +1,10 @@
 -- Commands of which each may run, and the first ones of them.
 use Rattle.std.proofs.{Common.{◌≡◌, ◌∙◌, ◌+◌, ◌-◌, ◌<◌, ◌≤◌, ℕ, zero, suc, List, [], ◌∷◌, ◌++◌, length, take, drop, get_or, sym, ap, subst, arith}, lemmas.List.{length-drop, take-append-drop, take_more}, lemmas.List.Elements.All-push}
 use Rattle.std.specs.Prelude.{All, Result, Ok, Err, OnOk, Some, slice_get}
-use Rattle.dim_hierarchy.specs.Dimension.{Dimension, IsHierarchy}
+use Rattle.dim_hierarchy.specs.Dimension.{Dimension}
 use Rattle.row_ledger.specs.declared.settings.Use.{Use}
 use Rattle.script_form.specs.{Fits.AreSettings, declared.script.Command.Command}
-use Rattle.seeded_run.specs.{Phase.MayAllRun, Roles.CanOpen}
+use Rattle.seeded_run.specs.Phase.{MayAllRun}
 
 -- Lists of which each item is so.
 
@@ -15,17 +15,7 @@ pub all-pushed : {A E : Type 0} {U : Type 0} (P : A → Type 0) (r : Result U E)
 all-pushed P (Ok u) xs ys x is all here = subst (All P) (sym is) (All-push P xs x all here)
 all-pushed P (Err e) xs ys x is all here = tt
 
--- With the settings of a script a core can open.
-pub can-open : (h : List Dimension) (with : Use) → AreSettings with → IsHierarchy h → CanOpen h with
-can-open h with settings hierarchy = record {
-  hierarchy = hierarchy;
-  servers = omega (arith, settings.servers.0);
-  workers = omega (arith, settings.workers.0);
-  enough = omega (arith, settings.workers.1, settings.cells.0);
-  few = omega (arith, settings.servers.1, settings.workers.1, settings.cells.1);
-}
-
--- the first of them too
+-- Of commands of which each may run, so may the first.
 
 get-take : (k : ℕ) (cs : List Command) (i : ℕ) (c : Command) → slice_get (take k cs) i ≡ Some c → slice_get cs i ≡ Some c
 get-take zero cs i c at = cc

@@ -3,7 +3,8 @@ use Rattle.std.specs.Prelude.{ℕ, ◌≡◌, List, length, Option}
 use Rattle.dim_hierarchy.specs.Dimension.{Dimension}
 use Rattle.row_ledger.specs.declared.settings.Use.{Use}
 use Rattle.volap_cell.specs.{Setting.{Setting, actor_count, cell_count}, State.{IsWorldOf, Stepped}, Steps.Inv, World.World, declared.actor.Actor.Actor, declared.cell.Cell.Cell, declared.kind.Kind.Kind}
-use Rattle.seeded_run.specs.{Instead.StandsFor, Progress.AreScriptRoles}
+use Rattle.script_roles.specs.Roles.{AreScriptRoles}
+use Rattle.seeded_run.specs.Instead.{StandsFor}
 
 -- the vectors are this state, of a core for these dimensions and settings and for a script's actors, which meets the invariant
 pub record IsCore (h : List Dimension) (with : Use) (cells : List (Option Cell)) (actors : List (Option Actor)) (s : Setting) (w : World) : Type 0 where

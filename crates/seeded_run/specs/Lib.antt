@@ -24,5 +24,4 @@ pub mod Phase
 pub mod Steps
 pub mod DueSteps
 pub mod Machine
-pub mod Roles
 pub mod ByHand

@@ -1,8 +1,9 @@
 -- While an actor isn't idle, or a stream isn't at its end, somebody can make a step.
-use Rattle.std.specs.Prelude.{ℕ, ◌≡◌, ◌≢◌, ◌+◌, ◌<◌, ◌&&◌, Bool, true, false, List, [], ◌∷◌, Some, None, is_some, length, slice_get, ◌≤◌}
+use Rattle.std.specs.Prelude.{ℕ, ◌≡◌, ◌≢◌, ◌+◌, ◌<◌, ◌&&◌, Bool, true, false, List, [], ◌∷◌, Some, None, is_some, length, slice_get}
 use Rattle.script_form.specs.{declared.script.Command.Command, declared.script.Command.TheVariants.Query, declared.script.Question.Question}
 use Rattle.script_run.specs.{Phases.closes, Places.session_of}
-use Rattle.volap_cell.specs.{Commands.once_shown, Ghost.Ghost, Invariant.InvWith, Setting.{Setting, actor_count}, Steps.history_in, View.view, World.World, declared.command.Command.Command as OpenCommand, declared.kind.Kind.Kind, declared.role.Role.Role, declared.role.Role.TheVariants.{Admin, Hand, Puller, Session}}
+use Rattle.volap_cell.specs.{Commands.once_shown, Ghost.Ghost, Invariant.InvWith, Setting.{Setting, actor_count}, Steps.history_in, View.view, World.World, declared.command.Command.Command as OpenCommand, declared.kind.Kind.Kind, declared.role.Role.Role, declared.role.Role.TheVariants.{Hand, Session}}
+use Rattle.script_roles.specs.Roles.{AreScriptRoles}
 use Rattle.core_due.specs.{Due.{does_nothing, is_empty}, Wants.meets}
 use Rattle.seeded_run.specs.{Can.able_in, Due.{due_by, is_alone}, Rests.{PhaseRun, first_open, rest_of}}
 
@@ -24,13 +25,6 @@ pub record IsScriptRun (s : Setting) (w : World) (rest : ℕ → List Command) :
   pub closing : (a b : ℕ) (c d : Command) (cs ds : List Command) → rest a ≡ c ∷ cs → rest b ≡ d ∷ ds → closes c ≡ true → closes d ≡ true → a ≡ b
   pub pages : ArePagesNext s w rest
   pub nobody : IsNobodyIn w
-
--- the actors of a script's run: the sessions by server, then the puller, the administrator, and the hands
-pub record AreScriptRoles (s : Setting) : Type 0 where
-  pub session : (server : ℕ) → server < s.servers → slice_get s.roles server ≡ Some (Session server)
-  pub puller : slice_get s.roles s.servers ≡ Some Puller
-  pub admin : slice_get s.roles (s.servers + 1) ≡ Some Admin
-  pub hand : (a : ℕ) (role : Role) → s.servers + 2 ≤ a → slice_get s.roles a ≡ Some role → (worker : ℕ) × (role ≡ Hand worker)
 
 -- a phase whose queries and inserts are to servers that are there, and of which the last command alone may close it
 pub record IsPhaseOf (s : Setting) (p : PhaseRun) : Type 0 where

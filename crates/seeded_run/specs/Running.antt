@@ -6,7 +6,8 @@ use Rattle.row_ledger.specs.Settled.{pulls_since}
 use Rattle.volap_cell.specs.{Setting.Setting, Steps.history_in, World.World, declared.command.Command.Command as OpenCommand}
 use Rattle.core_due.specs.Due.{does_nothing}
 use Rattle.core_told.specs.Told.{HasPulled, is_closing_work}
-use Rattle.seeded_run.specs.{Cursors.HasCursors, Due.is_alone, Progress.{ArePagesNext, AreScriptRoles, IsNobodyIn, IsPhaseOf}, Rests.{PhaseRun, first_open, rest_of}}
+use Rattle.script_roles.specs.Roles.{AreScriptRoles}
+use Rattle.seeded_run.specs.{Cursors.HasCursors, Due.is_alone, Progress.{ArePagesNext, IsNobodyIn, IsPhaseOf}, Rests.{PhaseRun, first_open, rest_of}}
 
 -- by session: where the command began that its actor has open
 abbrev pub opened_in : World → ℕ → Option ℕ

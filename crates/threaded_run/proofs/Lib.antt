@@ -6,3 +6,4 @@ pub mod Sent
 pub mod Passing
 pub mod WholeCalls
 pub mod OnePhase
+pub mod Opened

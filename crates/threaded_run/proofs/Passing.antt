@@ -10,7 +10,8 @@ use Rattle.seat_steps.specs.declared.floor.Floor.{Floor}
 use Rattle.session_runs.proofs.Later.{later-then}
 use Rattle.session_runs.specs.Sessions.{BeginsNothing, DoesFirst, DoesInTurn, stream_of}
 use Rattle.threaded_run.proofs.{Coming.{came-on, no-stream}, Turns.nothing-then}
-use Rattle.threaded_run.specs.{Jobs.{HasCome, IsJobReady}, Phases.{AreBack, ArePhased, HasGivenJob, HasGivenSome, HasTakenAll, HasTakenSome, IsNumbered}, Streams.AllFit, declared.threads.Job.Job}
+use Rattle.script_roles.specs.Roles.{IsNumbered}
+use Rattle.threaded_run.specs.{Jobs.{HasCome, IsJobReady}, Phases.{AreBack, ArePhased, HasGivenJob, HasGivenSome, HasTakenAll, HasTakenSome}, Streams.AllFit, declared.threads.Job.Job}
 use Rattle.volap_cell.specs.{Setting.{Setting, actor_count}, declared.role.{Role.Role, Role.TheVariants.Puller}}
 
 -- Out.
@@ -63,11 +64,11 @@ module _ (f : Floor) (was : PassesValue) (phased : ArePhased f was) where
     not-out low (inr out) = (let none = some.left (length jobs) (omega arith) in omega (arith, out, none))
 
     module _ (pass : PassValue) (now : PassesValue) (own : IsPassesOf f now) (has : HasTaken (length jobs) mid now pass) where
-      pub numbered-pass : IsNumbered pass.role f pass.number
+      pub numbered-pass : IsNumbered pass.role f.with pass.number
       numbered-pass =
           let low : length jobs + 1 < actor_count was.setting = (let same = ap actor_count some.setting in let free = has.free.0 in omega (arith, same, free)) in
           let role : slice_get was.setting.roles (length jobs) ≡ Some pass.role = ap (λ (s : Setting). slice_get s.roles (length jobs)) (sym some.setting) ∙ has.role in
-          subst (λ (n : ℕ). IsNumbered pass.role f n) (sym has.number_is) (phased.roles (length jobs) pass.role low role)
+          subst (λ (n : ℕ). IsNumbered pass.role f.with n) (sym has.number_is) (phased.roles (length jobs) pass.role low role)
 
       out-now : (k : ℕ) → count_by (λ x. x == k) now.out ≡ count_by (λ x. x == k) mid.out + cond (k == length jobs) 1 0
       out-now k = has.out k
@@ -193,7 +194,7 @@ module _ (f : Floor) (commands : List Command) (was : PassesValue) where
         own = some.own;
         all = all-in;
         many = subst (λ (s : Setting). f.with.servers + 3 ≤ actor_count s) (sym some.setting) phased.many;
-        roles = subst (λ (s : Setting). (n : ℕ) (r : Role) → n + 1 < actor_count s → slice_get s.roles n ≡ Some r → IsNumbered r f n) (sym some.setting) phased.roles;
+        roles = subst (λ (s : Setting). (n : ℕ) (r : Role) → n + 1 < actor_count s → slice_get s.roles n ≡ Some r → IsNumbered r f.with n) (sym some.setting) phased.roles;
         last = subst (λ (s : Setting). (n : ℕ) → n + 1 ≡ actor_count s → slice_get s.roles n ≡ Some Puller) (sym some.setting) phased.last;
       };
       later = some.later;

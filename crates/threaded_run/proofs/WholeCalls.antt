@@ -16,7 +16,8 @@ use Rattle.session_runs.proofs.Pulls.{plain-pulls}
 use Rattle.session_runs.specs.Sessions.{BeginsNothing, DoesCommand, DoesInTurn, EachDoes, EndsWithPulls, stream_of}
 use Rattle.session_steps.proofs.Grown.{at-pushed}
 use Rattle.threaded_run.proofs.{Called.{admin-calls, ends-pulled}, Done.over-here, Turns.does-own}
-use Rattle.threaded_run.specs.Phases.{AreBack, ArePhased, IsNumbered}
+use Rattle.script_roles.specs.Roles.{IsNumbered}
+use Rattle.threaded_run.specs.Phases.{AreBack, ArePhased}
 use Rattle.volap_cell.specs.{Setting.{Setting, actor_count}, declared.role.{Role.Role, Role.TheVariants.{Admin, Puller}}}
 use Rattle.whole_steps.specs.Settles.{ArePulls as ArePullsOfSettle}
 use Rattle.whole_steps.specs.declared.{settles.Settled.Settled, tells.Paged.Paged}
@@ -94,7 +95,7 @@ module _ (f : Floor) (was now : PassesValue) (phased : ArePhased f was) (on : Ha
           own = on.own;
           all = on.all;
           many = subst (λ (s : Setting). f.with.servers + 3 ≤ actor_count s) (sym same) phased.many;
-          roles = subst (λ (s : Setting). (n : ℕ) (r : Role) → n + 1 < actor_count s → slice_get s.roles n ≡ Some r → IsNumbered r f n) (sym same) phased.roles;
+          roles = subst (λ (s : Setting). (n : ℕ) (r : Role) → n + 1 < actor_count s → slice_get s.roles n ≡ Some r → IsNumbered r f.with n) (sym same) phased.roles;
           last = subst (λ (s : Setting). (n : ℕ) → n + 1 ≡ actor_count s → slice_get s.roles n ≡ Some Puller) (sym same) phased.last;
         };
         later = on.later;

@@ -5,6 +5,7 @@ use Rattle.dim_hierarchy.specs.Dimension.{Dimension}
 use Rattle.row_ledger.specs.declared.{event.Event.Event, settings.Use.Use}
 use Rattle.script_form.specs.declared.script.Command.{Command}
 use Rattle.seat_steps.specs.declared.floor.Floor.{Floor}
+use Rattle.script_roles.specs.Roles.{IsNumbered}
 use Rattle.script_run.specs.Streams.{NoneCloses}
 use Rattle.session_runs.specs.Sessions.{BeginsNothing, EachDoesFirst}
 use Rattle.threaded_run.specs.{Jobs.{AreJobsReady, HasCome}, declared.threads.Job.Job}
@@ -12,20 +13,13 @@ use Rattle.turn_table.specs.Numbered.{Extends}
 use Rattle.volap_cell.specs.{Setting.actor_count, declared.role.Role.Role}
 use Rattle.volap_cell.specs.declared.role.Role.TheVariants as role
 
--- which number is whose
-abbrev pub IsNumbered : Role → Floor → ℕ → Type 0
-IsNumbered (role.Session server) f n = (server ≡ n) × (n < f.with.servers)
-IsNumbered role.Puller f n = n ≡ f.with.servers
-IsNumbered role.Admin f n = n ≡ f.with.servers + 1
-IsNumbered (role.Hand worker) f n = f.with.servers + 1 < n
-
 -- The passes are those of a hall with a session for each server, then a puller, an administrator, and hands; all are in. The hall's own actor
 -- is a puller.
 pub record ArePhased (f : Floor) (p : PassesValue) : Type 0 where
   pub own : IsPassesOf f p
   pub all : AreAllIn p
   pub many : f.with.servers + 3 ≤ actor_count p.setting
-  pub roles : (n : ℕ) (r : Role) → n + 1 < actor_count p.setting → slice_get p.setting.roles n ≡ Some r → IsNumbered r f n
+  pub roles : (n : ℕ) (r : Role) → n + 1 < actor_count p.setting → slice_get p.setting.roles n ≡ Some r → IsNumbered r f.with n
   pub last : (n : ℕ) → n + 1 ≡ actor_count p.setting → slice_get p.setting.roles n ≡ Some role.Puller
 
 -- all are in again, and have seen more

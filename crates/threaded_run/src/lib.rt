@@ -4,10 +4,12 @@
 mod callers;
 mod closing;
 mod jobs;
+mod opening;
 mod phase;
 mod phases;
 mod sessions;
 mod threads;
 
+pub use opening::open;
 pub use phase::run_phase;
 pub use phases::run_together;

@@ -2,8 +2,8 @@
 ghost use Rattle.std.specs.Prelude.{ℕ, ◌≡◌, List};
 ghost use Rattle.actor_run.specs.Passes.{IsPassOf};
 ghost use Rattle.row_ledger.specs.declared.event.Event.{Event};
+ghost use Rattle.script_roles.specs.Roles.{IsNumbered};
 ghost use Rattle.threaded_run.specs.Jobs.{AreJobsBack, AreJobsReady, IsJobBack, IsJobReady};
-ghost use Rattle.threaded_run.specs.Phases.{IsNumbered};
 ghost use Rattle.threaded_run.specs.Streams.{AllFit, NoneClosesAt};
 
 use crate::jobs::work;
@@ -29,7 +29,7 @@ pub(crate) struct Job {
 /// The job of a pass. A session is counted in at its server's desk.
 pub(crate) fn job_of<R: Wait>(rt: &R, hall: &Hall, pass: Pass) -> Job
     requires of { IsPassOf hall.now pass }
-    requires numbered { IsNumbered pass.role hall.now pass.number }
+    requires numbered { IsNumbered pass.role hall.now.with pass.number }
     ensures ready { IsJobReady hall.now pass.number pass.seen result }
 {
     let player = pass.into_player();

@@ -13,7 +13,8 @@ use Rattle.volap_cell.specs.declared.kind.Kind.TheVariants as kind
 use Rattle.volap_cell.proofs.Cells.States.{of-it, stands}
 use Rattle.core_due.specs.Due.{desk_of, is_empty_desk}
 use Rattle.core_told.specs.Told.{is_of_part}
-use Rattle.seeded_run.specs.{Commands.{IsAllowed, IsToBegin, beginning, beginning_if, may_begin}, Core.IsCore, Due.{are_known, first_kind, is_alone, next_kind}, Progress.AreScriptRoles}
+use Rattle.script_roles.specs.Roles.{AreScriptRoles}
+use Rattle.seeded_run.specs.{Commands.{IsAllowed, IsToBegin, beginning, beginning_if, may_begin}, Core.IsCore, Due.{are_known, first_kind, is_alone, next_kind}}
 use Rattle.seeded_run.proofs.{Due.DueCommands.{IsAtEmpty, at-empty}, Holding.LeftAlone.{IsAtCommand, at-command, next-due, off-part}, Scripts.role-is}
 
 -- Whose a command is.

@@ -2,7 +2,8 @@ use Rattle.std.proofs.{Common.{◌≡◌, ◌∙◌, ◌+◌, ◌-◌, ◌≤◌
 use Rattle.script_form.specs.declared.script.Command.{Command}
 use Rattle.script_run.specs.Streams.{NoneCloses}
 use Rattle.seeded_run.specs.{Kept.IsBetween, Order.is_order, Phase.{about, held}}
-use Rattle.run_tests.proofs.MayRun.{can-open, ends-within, may-take}
+use Rattle.script_roles.proofs.Roles.{can-open}
+use Rattle.run_tests.proofs.MayRun.{ends-within, may-take}
 use Rattle.run_tests.proofs.runs.run_all.Goals as goal
 use Rattle.olap_top.proofs.PhaseSteps.{closes-of}
 

@@ -1,6 +1,7 @@
 use Rattle.std.proofs.Common.{List, subst, sym}
 use Rattle.volap_cell.specs.{Filling.setting_for, Numbering.IsSetting, declared.role.Role.Role}
-use Rattle.seeded_run.proofs.Openings.{opened-between, opened-core, opened-roles, opened-so, opens}
+use Rattle.script_roles.proofs.Roles.{opens}
+use Rattle.seeded_run.proofs.Openings.{opened-between, opened-core, opened-roles, opened-so}
 use Rattle.seeded_run.proofs.opening.open_core.Goals as goal
 
 pub open-requires : goal.open-requires
