@@ -1,11 +1,11 @@
 -- Between phases: where one begins and where it ends.
-use Rattle.std.proofs.{Common.{◌≡◌, ◌≢◌, ◌∙◌, ℕ, zero, suc, ◌+◌, ◌<◌, ◌≤◌, inl, inr, Bool, true, false, List, [], ◌∷◌, ◌++◌, length, get_or, take, refl, sym, ap, subst, arith}, lemmas.Bool.ne_eqb, lemmas.Option.slice_get_within}
-use Rattle.std.specs.Prelude.{Option, Some, None, slice_get, IsTrue, is_some}
+use Rattle.std.proofs.{Common.{◌≡◌, ◌≢◌, ◌∙◌, ℕ, zero, suc, ◌+◌, ◌<◌, ◌≤◌, inl, inr, Bool, true, false, List, [], ◌∷◌, ◌++◌, length, get_or, take, refl, sym, ap, subst, arith}, lemmas.Bool.{cases_Bool, ne_eqb}, lemmas.Option.slice_get_within}
+use Rattle.std.specs.Prelude.{Option, Some, None, slice_get, IsTrue, is_some, ◌==◌, cond}
 use Rattle.row_ledger.proofs.Positions.{event_at-here, event_at-older}
-use Rattle.row_ledger.specs.{Past.{event_at, is_beginning, is_over, session_in}, declared.event.Event.Event, declared.settings.Use.Use}
+use Rattle.row_ledger.specs.{Past.{event_at, is_beginning, is_over, session_in}, Right.{EachEvent, IsFirstPull}, Site.Site, declared.event.Event.Event, declared.event.Event.TheVariants.Synced, declared.settings.Use.Use}
 use Rattle.script_form.specs.declared.script.Command.{Command}
 use Rattle.script_run.proofs.{Begin.{begins-none, places-other}, Grow.{begin, below-or, other, within}, NextCommand.{get-middle, has-place, next-none, over-now}, PhaseEnds.{finish_law, first-place, get-first, start-any, start_law}, PlaceFacts.{begins_of-other, count_of-append}}
-use Rattle.script_run.specs.{Between.{NoneBegunLaw, OrderBeginLaw, OrderOtherLaw, OrderStartLaw, PhaseEndLaw, PhaseStartLaw, ThroughLaw}, Parts.{IsPartAt, place_in}, Places.{begins_of, count_of, session_of}}
+use Rattle.script_run.specs.{Between.{OpeningLaw, OrderBeginLaw, OrderOtherLaw, OrderStartLaw, PhaseEndLaw, PhaseStartLaw, ThroughLaw}, Parts.{IsPartAt, place_in}, Places.{begins_of, count_of, session_of}, Runs.HasPulls}
 
 -- How many commands of a session stand in a list.
 
@@ -71,15 +71,32 @@ begins-nothing s (e ∷ past) none =
     not-some None is = refl
     not-some (Some x) is = cc
 
-pub none-begun-law : NoneBegunLaw
-none-begun-law with h history none pulls = record {
+-- first pulls begin no command, and end none
+none-begins : (site : Site) (h : List Event) → EachEvent (IsFirstPull site) h → (p : ℕ) (e : Event) → event_at h p ≡ Some e → is_beginning e ≡ false
+none-begins site [] pulls p e at = (let never : ◌≡◌ {A = Option Event} None (Some e) = at in absurd (cc))
+none-begins site (Synced server listing ∷ past) pulls p e at = elim (cases_Bool (p == length past)) [
+  | inl here ↦
+      (let same : Some (Synced server listing) ≡ Some e = ap (λ (b : Bool). cond b (Some (Synced server listing)) (event_at past p)) (sym here) ∙ at in
+      let event_is : Synced server listing ≡ e = cc in
+      ap is_beginning (sym event_is))
+  | inr older ↦ none-begins site past pulls.1 p e (ap (λ (b : Bool). cond b (Some (Synced server listing)) (event_at past p)) (sym older) ∙ at)
+]
+none-begins site (_ ∷ past) pulls p e at = absurd pulls.0
+
+none-ends : (with : Use) (site : Site) (h : List Event) → EachEvent (IsFirstPull site) h → EachEvent (HasPulls with) h
+none-ends with site [] pulls = tt
+none-ends with site (Synced server listing ∷ past) pulls = (tt, none-ends with site past pulls.1)
+none-ends with site (_ ∷ past) pulls = absurd pulls.0
+
+pub opening-law : OpeningLaw
+opening-law with h site history opening = record {
   part = record {
     begun = λ i c at. cc;
-    only = λ p e at begins. absurd (clash (is_beginning e) begins (none p e at));
+    only = λ p e at begins. absurd (clash (is_beginning e) begins (none-begins site history opening.pulls p e at));
     in_turn = λ i j c d at_c at_d w. cc;
-    pulls = pulls;
+    pulls = none-ends with site history opening.pulls;
   };
-  counts = λ s. ap length (begins-nothing s history none);
+  counts = λ s. ap length (begins-nothing s history (none-begins site history opening.pulls));
   over = λ i c at. cc;
 }
   where

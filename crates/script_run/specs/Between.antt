@@ -2,7 +2,7 @@
 -- other.
 use Rattle.std.specs.Prelude.{ℕ, true, false, ◌≡◌, ◌≢◌, ◌<◌, ◌≤◌, ◌⊎◌, IsTrue, Option, Some, None, List, [], ◌∷◌, ◌++◌, length, slice_get}
 use Rattle.dim_hierarchy.specs.Dimension.{Dimension}
-use Rattle.row_ledger.specs.{Classes.class_of, Past.{event_at, is_beginning, is_over, session_in}, Right.EachEvent, declared.event.Event.Event, declared.event.Event.TheVariants.Called, declared.settings.Call.Call, declared.settings.Use.Use}
+use Rattle.row_ledger.specs.{Classes.class_of, Kept.IsOpeningHistory, Past.{event_at, is_beginning, is_over, session_in}, Site.Site, declared.event.Event.Event, declared.event.Event.TheVariants.Called, declared.settings.Call.Call, declared.settings.Use.Use}
 use Rattle.script_form.specs.declared.script.Command.{Command}
 use Rattle.script_run.specs.{Parts.{IsPartAt, Waits, place_in}, Phases.is_closing, Places.{begins_of, count_of, session_of}, Runs.{HasPulls, Begins, EndsBefore, IsRunOf, IsRunSoFar}, Streams.{AreFinished, IsInPhase}}
 
@@ -18,10 +18,9 @@ pub record IsThrough (with : Use) (h : List Dimension) (commands : List Command)
 abbrev pub ThroughLaw : Type 0
 ThroughLaw = (with : Use) (h : List Dimension) (commands : List Command) (history : List Event) → IsThrough with h commands history → IsRunOf with h commands history
 
--- Before the first phase nothing has begun.
-abbrev pub NoneBegunLaw : Type 0
-NoneBegunLaw = (with : Use) (h : List Dimension) (history : List Event) → ((p : ℕ) (e : Event) → event_at history p ≡ Some e → is_beginning e ≡ false)
-    → EachEvent (HasPulls with) history → IsThrough with h [] history
+-- Before the first phase, behind the first pull of each server, nothing has begun.
+abbrev pub OpeningLaw : Type 0
+OpeningLaw = (with : Use) (h : List Dimension) (site : Site) (history : List Event) → IsOpeningHistory site history → IsThrough with h [] history
 
 -- of each session the first command from the n-th on is next
 abbrev pub AreFirst : Use → List Command → ℕ → (ℕ → ℕ) → Type 0

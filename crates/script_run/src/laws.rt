@@ -1,5 +1,5 @@
 //! Laws of runs, as histories grow.
-ghost use Rattle.script_run.specs.Between.{ClosingLaw, NoneBegunLaw, OrderBeginLaw, OrderOtherLaw, OrderStartLaw, PhaseEndLaw, PhaseStartLaw, ThroughLaw};
+ghost use Rattle.script_run.specs.Between.{ClosingLaw, OpeningLaw, OrderBeginLaw, OrderOtherLaw, OrderStartLaw, PhaseEndLaw, PhaseStartLaw, ThroughLaw};
 ghost use Rattle.script_run.specs.Parts.{PartLaw, SerialLaw};
 ghost use Rattle.script_run.specs.Streams.{StreamBeginLaw, FinishLaw, NextLaw, StreamOtherLaw, PhaseBeginLaw, PhaseOtherLaw, RankLaw, StartLaw};
 
@@ -30,7 +30,7 @@ pub fn phases_go_on()
 /// over the run is through with it too.
 pub fn phases_begin_and_end()
     ensures through { ThroughLaw }
-    ensures none { NoneBegunLaw }
+    ensures opening { OpeningLaw }
     ensures start { PhaseStartLaw }
     ensures end { PhaseEndLaw }
 {}

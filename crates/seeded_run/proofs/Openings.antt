@@ -1,33 +1,16 @@
 -- A script's core as it opens, and with what it begins.
-use Rattle.std.proofs.{Common.{◌≡◌, ◌∙◌, inl, inr, ℕ, ◌+◌, ◌<◌, List, [], ◌∷◌, length, Bool, false, Option, Some, None, refl, sym, ap, subst, arith}, lemmas.Bool.cases_Bool}
-use Rattle.std.specs.Prelude.{◌==◌, cond}
+use Rattle.std.proofs.Common.{◌≡◌, ◌∙◌, ℕ, ◌+◌, ◌<◌, List, [], length, Bool, Option, Some, None, refl, sym, ap, subst, arith}
+use Rattle.std.specs.Prelude.{cond}
 use Rattle.dim_hierarchy.specs.Dimension.{Dimension}
 use Rattle.list_words.specs.Counts.{times}
-use Rattle.row_ledger.specs.{Past.{event_at, is_beginning}, Right.{EachEvent, IsFirstPull}, Site.Site, declared.event.Event.Event, declared.event.Event.TheVariants.Synced, declared.settings.Use.Use}
+use Rattle.row_ledger.specs.{Kept.IsOpeningHistory, declared.event.Event.Event, declared.settings.Use.Use}
 use Rattle.script_form.specs.declared.script.Command.{Command}
-use Rattle.script_run.specs.{Between.{IsInOrder, IsThrough, NoneBegunLaw}, Runs.HasPulls}
+use Rattle.script_run.specs.Between.{IsInOrder, IsThrough, OpeningLaw}
 use Rattle.script_roles.specs.Roles.{roles_of}
 use Rattle.script_roles.proofs.Roles.{script-roles}
 use Rattle.volap_cell.specs.{Cells.{CellValue, ledger_in, phase_of}, Filling.{IsOpened, setting_for}, Opening.IsOpening, Reusing.is_gone, Setting.{Setting, site_in}, Steps.history_in, declared.actor.Actor.Actor, declared.cell.Cell.Cell, declared.role.Role.Role, declared.role.Role.TheVariants.Admin}
 use Rattle.seeded_run.specs.{Core.{HasCore, IsCore}, Kept.{IsBetween, IsNoneGone}, Phase.most_actors, Worlds.{setting_in, world_in}}
 use Rattle.seeded_run.proofs.{Scripts.role-is, Worlds.{one-setting, only-world}}
-
--- first pulls begin no command, and end none
-none-begins : (site : Site) (h : List Event) → EachEvent (IsFirstPull site) h → (p : ℕ) (e : Event) → event_at h p ≡ Some e → is_beginning e ≡ false
-none-begins site [] pulls p e at = (let never : ◌≡◌ {A = Option Event} None (Some e) = at in absurd (cc))
-none-begins site (Synced server listing ∷ past) pulls p e at = elim (cases_Bool (p == length past)) [
-  | inl here ↦
-      (let same : Some (Synced server listing) ≡ Some e = ap (λ (b : Bool). cond b (Some (Synced server listing)) (event_at past p)) (sym here) ∙ at in
-      let event_is : Synced server listing ≡ e = cc in
-      ap is_beginning (sym event_is))
-  | inr older ↦ none-begins site past pulls.1 p e (ap (λ (b : Bool). cond b (Some (Synced server listing)) (event_at past p)) (sym older) ∙ at)
-]
-none-begins site (_ ∷ past) pulls p e at = absurd pulls.0
-
-none-ends : (with : Use) (site : Site) (h : List Event) → EachEvent (IsFirstPull site) h → EachEvent (HasPulls with) h
-none-ends with site [] pulls = tt
-none-ends with site (Synced server listing ∷ past) pulls = (tt, none-ends with site past pulls.1)
-none-ends with site (_ ∷ past) pulls = absurd pulls.0
 
 -- no commands are in order
 in-order : (with : Use) (h : List Dimension) (history : List Event) → IsThrough with h [] history → IsInOrder with h [] history
@@ -77,8 +60,8 @@ module _ (h : List Dimension) (with : Use) (roles : List Role) (roles_are : role
   history-is : history ≡ opened.opening.ledger.history
   history-is = ap (λ (c : CellValue). (ledger_in c).history) opened.opening.ledger_is
 
-  pulls : EachEvent (IsFirstPull (site_in s)) history
-  pulls = subst (EachEvent (IsFirstPull (site_in s))) (sym history-is) opened.opening.history.pulls
+  opening-history : IsOpeningHistory (site_in s) history
+  opening-history = subst (IsOpeningHistory (site_in s)) (sym history-is) opened.opening.history
 
   -- no gate is gone, as the administrator's list of them is empty
   none-gone : IsNoneGone opened.world
@@ -92,9 +75,9 @@ module _ (h : List Dimension) (with : Use) (roles : List Role) (roles_are : role
       let one : ◌≡◌ {A = ℕ} (cond (is_gone (phase_of (opened.world.cells c))) 1 0) 1 = ap (λ p. cond (is_gone p) 1 0) gone in
       absurd (omega (arith, listed, none, one))
 
-  between-before : NoneBegunLaw → (b : Bool) → IsBetween b s with [] opened.world
-  between-before none_begun b =
-      let through : IsThrough with h [] history = none_begun with h history (none-begins (site_in s) history pulls) (none-ends with (site_in s) history pulls) in
+  between-before : OpeningLaw → (b : Bool) → IsBetween b s with [] opened.world
+  between-before opening b =
+      let through : IsThrough with h [] history = opening with h (site_in s) history opening-history in
       record {
         through = through;
         idle = λ a. (let fresh = opened.opening.actors a in record { command = fresh.command; errand = fresh.errand; job = fresh.job; purse = fresh.purse; counted = fresh.counted });
@@ -102,6 +85,6 @@ module _ (h : List Dimension) (with : Use) (roles : List Role) (roles_are : role
         ordered = λ order. in-order with h history through;
       }
 
-  pub opened-between : NoneBegunLaw → (b : Bool) → IsBetween b (setting_in h with actors) with [] (world_in h with cells actors)
-  opened-between none_begun b =
-      subst (IsBetween b (setting_in h with actors) with []) world-is (subst (λ (t : Setting). IsBetween b t with [] opened.world) setting-is (between-before none_begun b))
+  pub opened-between : OpeningLaw → (b : Bool) → IsBetween b (setting_in h with actors) with [] (world_in h with cells actors)
+  opened-between opening b =
+      subst (IsBetween b (setting_in h with actors) with []) world-is (subst (λ (t : Setting). IsBetween b t with [] opened.world) setting-is (between-before opening b))

@@ -7,9 +7,10 @@ use Rattle.row_ledger.specs.declared.settings.Use.{Use}
 use Rattle.script_form.specs.Fits.{AreSettings}
 use Rattle.script_roles.specs.Roles.{IsNumbered, roles_of}
 use Rattle.script_roles.proofs.Roles.{admin-at, can-open, few-in-script, numbered, opens-with}
+use Rattle.script_run.specs.Between.{IsThrough, OpeningLaw}
 use Rattle.seat_steps.specs.declared.floor.Floor.{Floor}
 use Rattle.threaded_run.specs.Phases.{ArePhased}
-use Rattle.volap_cell.specs.{Filling.setting_for, Numbering.IsSetting, Setting.{Setting, actor_count}, declared.role.Role.Role, declared.role.Role.TheVariants.{Admin, Puller}}
+use Rattle.volap_cell.specs.{Setting.{Setting, actor_count}, declared.role.Role.Role, declared.role.Role.TheVariants.{Admin, Puller}}
 
 -- Lists.
 
@@ -78,3 +79,6 @@ module _ (h : List Dimension) (with : Use) (roles : List Role) (listed : roles �
     roles = there;
     last = λ n is. ap (λ (rs : List Role). slice_get rs n) roles-are ∙ at-last roles (own_role roles) n (omega (arith, is, count)) ∙ ap Some same;
   }
+
+  pub none-begun : OpeningLaw → IsThrough with h [] p.seen
+  none-begun law = law with h (site_in p.setting) p.seen opened.opening

@@ -21,7 +21,7 @@ returns-clause-roles c =
 pub returns-clause-between : goal.returns-clause-between
 returns-clause-between c =
     opened-between c.args.h.now c.args.with.now c.in_ok-roles.roles c.in_ok-roles.ensures.value c.in_ok-state.state.cells.items c.in_ok-state.state.actors.items c.in_ok-state.ensures
-    c.phases_begin_and_end.ensures.none
+    c.phases_begin_and_end.ensures.opening
 
 pub returns-clause-opening : goal.returns-clause-opening
 returns-clause-opening c =

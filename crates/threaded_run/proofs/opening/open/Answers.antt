@@ -1,5 +1,5 @@
 use Rattle.dim_hierarchy.specs.declared.hierarchy.Hierarchy.{Hierarchy}
-use Rattle.threaded_run.proofs.Opened.{are-phased, script-hall}
+use Rattle.threaded_run.proofs.Opened.{are-phased, none-begun, script-hall}
 use Rattle.whole_steps.proofs.Telling.{if-ok-on}
 use Rattle.threaded_run.proofs.opening.open.Goals as goal
 
@@ -10,3 +10,8 @@ open-requires c = record {
 
 pub returns-clause-phased : goal.returns-clause-phased
 returns-clause-phased c = if-ok-on c.open.result c.open.ensures.opened (λ r opened. are-phased c.args.hierarchy c.args.with c.in_ok-roles.roles c.in_ok-roles.ensures.value r.0 r.1 opened)
+
+pub returns-clause-through : goal.returns-clause-through
+returns-clause-through c =
+    if-ok-on c.open.result c.open.ensures.opened
+    (λ r opened. none-begun c.args.hierarchy c.args.with c.in_ok-roles.roles c.in_ok-roles.ensures.value r.0 r.1 opened c.phases_begin_and_end.ensures.opening)
