@@ -5,8 +5,8 @@ use Rattle.row_ledger.specs.{Past.{event_at, session_in}, declared.event.Event.E
 use Rattle.row_ledger.specs.declared.event.Event.TheVariants.{Refused}
 use Rattle.script_run.specs.Places.{begins_of}
 use Rattle.script_run.proofs.{Begin.begins-own, PlaceFacts.begins_of-here}
-use Rattle.session_steps.proofs.Grown.{at-pushed}
-use Rattle.seat_steps.proofs.Since.{extends-on}
+use Rattle.whole_steps.specs.session_steps.proofs.Grown.{at-pushed}
+use Rattle.whole_steps.specs.seat_steps.proofs.Since.{extends-on}
 use Rattle.turn_table.specs.Numbered.{Extends}
 
 pub extends-length : (was now : List Event) → Extends now was → length was ≤ length now

@@ -9,11 +9,11 @@ use Rattle.actor_run.specs.{Halls.HasClosed, Passes.{ArePasses, IsAt, IsIn, IsPa
 use Rattle.actor_run.proofs.Missing.{none-missing}
 use Rattle.dim_hierarchy.specs.Dimension.{Dimension}
 use Rattle.row_ledger.specs.{Right.IsRight, Site.Site, declared.event.Event.Event}
-use Rattle.seat_steps.specs.declared.floor.Floor.{Floor}
+use Rattle.whole_steps.specs.seat_steps.specs.declared.floor.Floor.{Floor}
 use Rattle.turn_table.specs.{Numbered.value_of, Seat.SeatValue, Views.HasAll}
-use Rattle.volap_cell.specs.{Setting.Setting, Values.{ActorValue, actor_of}, declared.actor.Actor.Actor, declared.cell.Cell.Cell, declared.state.State.State}
-use Rattle.volap_cell.proofs.Cells.States.{is-some, of-it}
-use Rattle.volap_turns.specs.Wholes.{AreActorsOf, HasHistory, IsWhole}
+use Rattle.whole_steps.specs.volap_cell.specs.{Setting.Setting, Values.{ActorValue, actor_of}, declared.actor.Actor.Actor, declared.cell.Cell.Cell, declared.state.State.State}
+use Rattle.whole_steps.specs.volap_cell.proofs.Cells.States.{is-some, of-it}
+use Rattle.whole_steps.specs.volap_turns.specs.Wholes.{AreActorsOf, HasHistory, IsWhole}
 
 module _ {s : SeatValue Cell Actor Event} {own : Actor} {actors : List (Option Actor)} (are : ArePasses s own actors) (all : missing 0 actors ≡ []) where
   abbrev about : Setting

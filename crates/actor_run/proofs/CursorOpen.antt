@@ -5,20 +5,20 @@ use Rattle.actor_run.specs.{Cursors.{BeginsCursor, Finishes, HasFinished, IsCurs
 use Rattle.actor_run.specs.declared.session.Asked.TheVariants as asked
 use Rattle.actor_run.specs.declared.session.Asked.{Asked as AskedAnswer}
 use Rattle.actor_run.proofs.{Chains.extends-length, Ends.{query-ended, query-unacked}, Opened.{further-end, further-kind, just-open}, Sessions.{begun-since, number-is, server-is}}
-use Rattle.core_image.specs.Told.{asked_by}
+use Rattle.whole_steps.specs.core_image.specs.Told.{asked_by}
 use Rattle.dim_hierarchy.specs.{Dimension.Dimension, declared.{filter.{NamePick.NamePick, Pick.Pick}}}
 use Rattle.measure_agg.specs.Aggregate.{Aggregate}
 use Rattle.row_ledger.specs.declared.event.Event.{Event}
 use Rattle.row_ledger.specs.declared.event.Event.TheVariants.{Answered, Asked, Failed}
 use Rattle.script_run.specs.Places.{begins_of}
-use Rattle.part_steps.specs.{Parts.IsUnread, Reads.IsBeforeBlocks}
-use Rattle.seat_steps.specs.declared.floor.{Floor.Floor, Player.Player}
-use Rattle.session_steps.specs.{Commands.{IsEndFor, IsEndOf, IsFurtherWork}, declared.commands.End.End}
-use Rattle.session_steps.specs.declared.commands.End.TheVariants as end
-use Rattle.session_steps.proofs.Heard.{begun-nothing}
-use Rattle.seat_steps.proofs.Since.{extends-on}
-use Rattle.volap_cell.specs.{ImageKinds.doing, Values.{ActorValue, actor_of}, declared.command.{Command.Command, Work.Work}}
-use Rattle.volap_cell.specs.declared.command.Work.TheVariants as work_is
+use Rattle.whole_steps.specs.part_steps.specs.{Parts.IsUnread, Reads.IsBeforeBlocks}
+use Rattle.whole_steps.specs.seat_steps.specs.declared.floor.{Floor.Floor, Player.Player}
+use Rattle.whole_steps.specs.session_steps.specs.{Commands.{IsEndFor, IsEndOf, IsFurtherWork}, declared.commands.End.End}
+use Rattle.whole_steps.specs.session_steps.specs.declared.commands.End.TheVariants as end
+use Rattle.whole_steps.specs.session_steps.proofs.Heard.{begun-nothing}
+use Rattle.whole_steps.specs.seat_steps.proofs.Since.{extends-on}
+use Rattle.whole_steps.specs.volap_cell.specs.{ImageKinds.doing, Values.{ActorValue, actor_of}, declared.command.{Command.Command, Work.Work}}
+use Rattle.whole_steps.specs.volap_cell.specs.declared.command.Work.TheVariants as work_is
 
 -- What is open.
 

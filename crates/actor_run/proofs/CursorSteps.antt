@@ -2,14 +2,14 @@
 use Rattle.std.proofs.Common.{◌≡◌, ◌∙◌, ℕ, List, Result, Ok, Err, IfErr, IsErr, IsErrAnd, sym, ap, subst}
 use Rattle.actor_run.specs.{Cursors.{CursorValue, IsCursor, WasRefused, cursor_of}, Driving.IsOpenSince, Sessions.session_of}
 use Rattle.actor_run.proofs.Opened.{part-on}
-use Rattle.core_tree.specs.ReadDue.{room_to_note}
+use Rattle.whole_steps.specs.core_tree.specs.ReadDue.{room_to_note}
 use Rattle.dim_hierarchy.specs.declared.filter.Pick.{Pick}
 use Rattle.row_ledger.specs.declared.event.Event.{Event}
-use Rattle.seat_steps.specs.{Floors.{AreTold, IsSeated, Stands, kept_by}, declared.floor.{Floor.Floor, Player.Player}}
-use Rattle.seat_steps.specs.Takes as seat_takes
-use Rattle.session_steps.specs.Visits as seat
+use Rattle.whole_steps.specs.seat_steps.specs.{Floors.{AreTold, IsSeated, Stands, kept_by}, declared.floor.{Floor.Floor, Player.Player}}
+use Rattle.whole_steps.specs.seat_steps.specs.Takes as seat_takes
+use Rattle.whole_steps.specs.session_steps.specs.Visits as seat
 use Rattle.turn_table.specs.{Seat.SeatValue, Views.after_refusal}
-use Rattle.volap_cell.specs.{ImageKinds.doing, Values.{ActorValue, actor_of}, declared.actor.Actor.Actor, declared.cell.Cell.Cell}
+use Rattle.whole_steps.specs.volap_cell.specs.{ImageKinds.doing, Values.{ActorValue, actor_of}, declared.actor.Actor.Actor, declared.cell.Cell.Cell}
 
 -- Rooms.
 

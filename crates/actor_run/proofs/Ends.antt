@@ -6,19 +6,19 @@ use Rattle.actor_run.specs.declared.session.Asked.TheVariants as asked
 use Rattle.actor_run.specs.declared.session.Inserted.TheVariants as inserted
 use Rattle.actor_run.specs.declared.session.{Asked.{Asked as AskedAnswer}, Inserted.Inserted}
 use Rattle.actor_run.proofs.{Chains.extends-length, Opened.just-open, Sessions.{ended-since, number-is, server-is}}
-use Rattle.core_image.specs.Told.{asked_by, begun_by}
+use Rattle.whole_steps.specs.core_image.specs.Told.{asked_by, begun_by}
 use Rattle.dim_hierarchy.specs.{Filter.{IsFilterNamed, picks}, Row.{IsCoordNamed, leaves}, declared.{filter.{NamePick.NamePick, Pick.Pick}, row.Coord.Coord}}
 use Rattle.measure_agg.specs.Aggregate.{Aggregate}
 use Rattle.row_ledger.specs.declared.event.Event.{Event}
 use Rattle.row_ledger.specs.declared.event.Event.TheVariants.{Asked, Begun, Refused, Unknown}
 use Rattle.script_run.specs.Places.{begins_of}
-use Rattle.seat_steps.specs.{Booked.IsAsBefore, Floors.Stands, declared.floor.{Floor.Floor, Player.Player}}
-use Rattle.session_steps.specs.{Begins.{CanBegin, HasAsked, HasBegunInsert, row_at}, declared.commands.End.End}
-use Rattle.session_steps.specs.declared.commands.End.TheVariants as end
-use Rattle.session_steps.proofs.Heard.{begun-nothing}
-use Rattle.seat_steps.proofs.Since.{extends-on}
-use Rattle.volap_cell.specs.{ImageKinds.{IsFree, doing}, Values.{ActorValue, actor_of}, declared.command.Work.Work}
-use Rattle.volap_cell.specs.declared.command.Work.TheVariants as work_is
+use Rattle.whole_steps.specs.seat_steps.specs.{Booked.IsAsBefore, Floors.Stands, declared.floor.{Floor.Floor, Player.Player}}
+use Rattle.whole_steps.specs.session_steps.specs.{Begins.{CanBegin, HasAsked, HasBegunInsert, row_at}, declared.commands.End.End}
+use Rattle.whole_steps.specs.session_steps.specs.declared.commands.End.TheVariants as end
+use Rattle.whole_steps.specs.session_steps.proofs.Heard.{begun-nothing}
+use Rattle.whole_steps.specs.seat_steps.proofs.Since.{extends-on}
+use Rattle.whole_steps.specs.volap_cell.specs.{ImageKinds.{IsFree, doing}, Values.{ActorValue, actor_of}, declared.command.Work.Work}
+use Rattle.whole_steps.specs.volap_cell.specs.declared.command.Work.TheVariants as work_is
 
 -- Beginnings.
 

@@ -8,20 +8,20 @@ use native.Mathlib.Decide.{ℕ_discrete, dec_lt}
 use Rattle.actor_run.proofs.{Closing.has-all, Missing.none-missing, Taken.some-cells, Seated.{below-count, is, is-actor, none-held, none-since, right-whole, role-of, setting-of, still-at}}
 use Rattle.actor_run.specs.{Halls.is_admin, Passes.{AreAllIn, ArePasses, HasAdmin, IsAbout, IsAdminOf, IsAt, IsIn, IsPassesOf, PassesValue, in_seat, missing, passes_of}, Wholes.{AddsNothing, AreToldBy, EndsIn, HaveGoneOn, HaveSettledSo, is_admin_at}}
 use Rattle.atomic_table.specs.Seated.{TableId}
-use Rattle.call_steps.proofs.OpenCalls.{extends-length}
-use Rattle.call_steps.specs.Calls.{CanCall}
+use Rattle.whole_steps.specs.call_steps.proofs.OpenCalls.{extends-length}
+use Rattle.whole_steps.specs.call_steps.specs.Calls.{CanCall}
 use Rattle.list_words.proofs.Elements.{Some-same}
 use Rattle.row_ledger.specs.{Classes.class_of, Right.IsRight, Site.Site, declared.class.Class.Class, declared.class.Subject.Subject, declared.event.Event.Event, declared.event.Event.TheVariants.{Called, Ended, Shown}, declared.settings.Call.Call}
 use Rattle.row_ledger.specs.declared.class.Class.TheVariants as class
 use Rattle.row_ledger.specs.declared.settings.Call.TheVariants.{Settle}
 use Rattle.row_ledger.specs.declared.settings.Decline.TheVariants as decline
 use Rattle.row_ledger.specs.declared.settings.How.TheVariants as how
-use Rattle.seat_steps.proofs.Since.{extends-on}
-use Rattle.seat_steps.specs.declared.floor.Floor.{Floor}
+use Rattle.whole_steps.specs.seat_steps.proofs.Since.{extends-on}
+use Rattle.whole_steps.specs.seat_steps.specs.declared.floor.Floor.{Floor}
 use Rattle.turn_table.specs.{Numbered.{Extends, numbers_of, value_of}, Seat.{SeatValue, cell_count}}
-use Rattle.volap_cell.specs.{Commands.{MayCall, MayCallAs}, Setting.{Setting, actor_count, ledger_cell, site_in}, Sights.IsIdle, Values.{ActorValue, actor_of}, declared.actor.Actor.Actor, declared.cell.Cell.Cell, declared.role.Role.Role, declared.role.Role.TheVariants.{Admin, Hand, Puller, Session}}
+use Rattle.whole_steps.specs.volap_cell.specs.{Commands.{MayCall, MayCallAs}, Setting.{Setting, actor_count, ledger_cell, site_in}, Sights.IsIdle, Values.{ActorValue, actor_of}, declared.actor.Actor.Actor, declared.cell.Cell.Cell, declared.role.Role.Role, declared.role.Role.TheVariants.{Admin, Hand, Puller, Session}}
 use Rattle.script_run.specs.Places.{begins_of}
-use Rattle.volap_turns.specs.Worlds.{past}
+use Rattle.whole_steps.specs.volap_turns.specs.Worlds.{past}
 use Rattle.whole_steps.proofs.Alone.{everyone-of, idle-keeps, idle-none}
 use Rattle.whole_steps.specs.{Done.{HasDone, HasNotBegun, HasPaged, IsDoneSole}, Seats.{HasEveryone, HasTurned}, Settles.HasSettledCall, Sole.{StandsSole, player}}
 use Rattle.whole_steps.specs.declared.settles.Settled.{Settled}

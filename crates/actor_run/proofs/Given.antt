@@ -7,11 +7,11 @@ use lib.Seq.{set-get_or}
 use Rattle.actor_run.specs.Passes.{ArePasses, HasGiven, IsAt, IsIn, IsPass, missing, pass_of, passes_of}
 use Rattle.actor_run.proofs.{Missing.{not-missing, out-more, out-once}, Seated.{below-count, is, is-actor, none-held, none-since, setting-of, still-at}}
 use Rattle.row_ledger.specs.{Right.IsRight, declared.event.Event.Event}
-use Rattle.seat_steps.specs.declared.floor.Player.{Player}
+use Rattle.whole_steps.specs.seat_steps.specs.declared.floor.Player.{Player}
 use Rattle.turn_table.specs.{Numbered.{Extends, longer, value_of}, Seat.{SeatValue, cell_count}, Views.joined_view}
 use Rattle.turn_table.proofs.Numbered.{find_append_first, find_append_second, some_or_none}
-use Rattle.volap_cell.specs.{Setting.{Setting, site_in}, Sights.IsIdle, Values.{ActorValue, actor_of}, declared.actor.Actor.Actor, declared.cell.Cell.Cell}
-use Rattle.volap_turns.specs.{Rule.Rests, Wholes.CanBe, Worlds.past}
+use Rattle.whole_steps.specs.volap_cell.specs.{Setting.{Setting, site_in}, Sights.IsIdle, Values.{ActorValue, actor_of}, declared.actor.Actor.Actor, declared.cell.Cell.Cell}
+use Rattle.whole_steps.specs.volap_turns.specs.{Rule.Rests, Wholes.CanBe, Worlds.past}
 
 -- the longer of two is one of them
 pub longer-one : (xs ys : List Event) → (longer xs ys ≡ xs) ⊎ (longer xs ys ≡ ys)

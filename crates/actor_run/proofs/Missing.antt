@@ -3,8 +3,8 @@ use Rattle.std.proofs.{Common.{◌≡◌, ◌≢◌, ◌∙◌, ℕ, zero, suc, 
 use mathlib.Core.Logic.{dite}
 use native.Mathlib.Decide.{ℕ_discrete}
 use Rattle.actor_run.specs.Passes.{missing}
-use Rattle.volap_cell.specs.declared.actor.Actor.{Actor}
-use Rattle.volap_turns.specs.Rule.{all_there}
+use Rattle.whole_steps.specs.volap_cell.specs.declared.actor.Actor.{Actor}
+use Rattle.whole_steps.specs.volap_turns.specs.Rule.{all_there}
 
 abbrev one_if : Bool → ℕ
 one_if b = cond b 1 0

@@ -4,14 +4,14 @@ use Rattle.actor_run.specs.Driving.{EndsSince, IsOpenSince}
 use Rattle.actor_run.proofs.Chains.{extends-length}
 use Rattle.row_ledger.specs.declared.event.Event.{Event}
 use Rattle.script_run.specs.Places.{begins_of}
-use Rattle.part_steps.specs.Goings.{WentOn}
-use Rattle.seat_steps.specs.{Floors.Stands, declared.floor.{Floor.Floor, Player.Player}}
-use Rattle.session_steps.specs.{Commands.{HasEnded, HasOpen, IsEndFor, IsEndOf, IsFurtherWork, IsOfSession, IsStillOpen}, declared.commands.End.End}
-use Rattle.session_steps.specs.declared.commands.End.TheVariants as end
-use Rattle.session_steps.proofs.Heard.{begun-nothing}
-use Rattle.seat_steps.proofs.Since.{extends-on}
-use Rattle.volap_cell.specs.{ImageKinds.doing, Values.{ActorValue, ErrandValue, actor_of, errand_of}, declared.command.{Command.Command, Work.Work}, declared.role.Role.TheVariants.Session}
-use Rattle.volap_cell.specs.declared.command.Work.TheVariants as work_is
+use Rattle.whole_steps.specs.part_steps.specs.Goings.{WentOn}
+use Rattle.whole_steps.specs.seat_steps.specs.{Floors.Stands, declared.floor.{Floor.Floor, Player.Player}}
+use Rattle.whole_steps.specs.session_steps.specs.{Commands.{HasEnded, HasOpen, IsEndFor, IsEndOf, IsFurtherWork, IsOfSession, IsStillOpen}, declared.commands.End.End}
+use Rattle.whole_steps.specs.session_steps.specs.declared.commands.End.TheVariants as end
+use Rattle.whole_steps.specs.session_steps.proofs.Heard.{begun-nothing}
+use Rattle.whole_steps.specs.seat_steps.proofs.Since.{extends-on}
+use Rattle.whole_steps.specs.volap_cell.specs.{ImageKinds.doing, Values.{ActorValue, ErrandValue, actor_of, errand_of}, declared.command.{Command.Command, Work.Work}, declared.role.Role.TheVariants.Session}
+use Rattle.whole_steps.specs.volap_cell.specs.declared.command.Work.TheVariants as work_is
 
 -- Whether an actor is at a part.
 

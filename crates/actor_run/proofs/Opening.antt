@@ -14,8 +14,8 @@ use Rattle.script_run.specs.Places.{begins_in, begins_of}
 use Rattle.script_run.proofs.PlaceFacts.{begins_of-other}
 use Rattle.turn_table.specs.{Numbered.value_of, Seat.{SeatValue, cell_count}, Views.{HasAll, first_view, seen_of}}
 use Rattle.turn_table.proofs.{Numbered.{below_length, some_or_none, there}, Opened.{numbered_find, numbered_own}}
-use Rattle.volap_cell.specs.{Cells.{CellValue, ledger_in}, Filling.IsOpened, Opening.IsFresh, Setting.{Setting, actor_count, ledger_cell, site_in}, Values.{ActorValue, actor_of}, declared.actor.Actor.Actor, declared.cell.Cell.Cell, declared.role.{Role.Role, Role.TheVariants.{Admin, Hand, Puller, Session}}}
-use Rattle.volap_turns.specs.{Rule.{all_there, history_of}, Wholes.CanBe, Worlds.{IsWorld, at-place, is-world, long}}
+use Rattle.whole_steps.specs.volap_cell.specs.{Cells.{CellValue, ledger_in}, Filling.IsOpened, Opening.IsFresh, Setting.{Setting, actor_count, ledger_cell, site_in}, Values.{ActorValue, actor_of}, declared.actor.Actor.Actor, declared.cell.Cell.Cell, declared.role.{Role.Role, Role.TheVariants.{Admin, Hand, Puller, Session}}}
+use Rattle.whole_steps.specs.volap_turns.specs.{Rule.{all_there, history_of}, Wholes.CanBe, Worlds.{IsWorld, at-place, is-world, long}}
 
 abbrev S : Type 0
 S = SeatValue Cell Actor Event

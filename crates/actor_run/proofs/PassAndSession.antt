@@ -4,14 +4,14 @@ use Rattle.actor_run.specs.{Passes.{IsPass, IsPassOf, pass_of}, Sessions.{Become
 use Rattle.atomic_table.specs.Seated.{TableId}
 use Rattle.dim_hierarchy.specs.Dimension.{Dimension}
 use Rattle.row_ledger.specs.declared.event.Event.{Event}
-use Rattle.seat_steps.specs.{Booked.IsAsBefore, Floors.{AreTold, Stands, kept_on}, declared.floor.{Floor.Floor, Player.Player}}
-use Rattle.session_steps.specs.Coming.{HasCome, HasEmptied, HasLeft, IsAtNothing}
+use Rattle.whole_steps.specs.seat_steps.specs.{Booked.IsAsBefore, Floors.{AreTold, Stands, kept_on}, declared.floor.{Floor.Floor, Player.Player}}
+use Rattle.whole_steps.specs.session_steps.specs.Coming.{HasCome, HasEmptied, HasLeft, IsAtNothing}
 use Rattle.script_run.specs.Places.{begins_of}
-use Rattle.session_steps.proofs.Heard.{begun-nothing, right-seen}
-use Rattle.seat_steps.proofs.Since.{extends-on}
+use Rattle.whole_steps.specs.session_steps.proofs.Heard.{begun-nothing, right-seen}
+use Rattle.whole_steps.specs.seat_steps.proofs.Since.{extends-on}
 use Rattle.turn_table.specs.Numbered.{Extends}
-use Rattle.volap_cell.specs.{Errands.way_of, ImageKinds.IsFree, Setting.actor_count, Sights.IsIdle, Values.{ActorValue, ErrandValue, actor_of}, declared.role.Role.TheVariants.Session}
-use Rattle.volap_turns.specs.Seats.{Holds}
+use Rattle.whole_steps.specs.volap_cell.specs.{Errands.way_of, ImageKinds.IsFree, Setting.actor_count, Sights.IsIdle, Values.{ActorValue, ErrandValue, actor_of}, declared.role.Role.TheVariants.Session}
+use Rattle.whole_steps.specs.volap_turns.specs.Seats.{Holds}
 
 -- what is seen later is no less
 no-less : (was now : List Event) (n : ℕ) → Extends now was → n ≤ length was → n ≤ length now

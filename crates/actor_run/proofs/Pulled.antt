@@ -3,12 +3,12 @@ use Rattle.std.proofs.Common.{◌∙◌, ℕ, ◌<◌, Result, Ok, Err, inl, inr
 use Rattle.actor_run.specs.{Called.{EndedCall}, Doing.{HasDone, HasRefused}, Sessions.{EndsSync, IsSession}}
 use Rattle.actor_run.specs.declared.session.Synced.TheVariants as synced
 use Rattle.actor_run.proofs.Sessions.{IsBut, done}
-use Rattle.call_steps.specs.{Calls.CanCall, Opened.{IsCallDone}}
+use Rattle.whole_steps.specs.call_steps.specs.{Calls.CanCall, Opened.{IsCallDone}}
 use Rattle.row_ledger.specs.declared.{class.Class.Class, class.Class.TheVariants.Sync}
 use Rattle.row_ledger.specs.declared.settings.{Call.TheVariants.{Sync as CallsSync}, How.{How}, How.TheVariants.{Fine, NoMemory}}
-use Rattle.seat_steps.specs.declared.floor.{Floor.Floor, Player.Player}
-use Rattle.session_steps.proofs.Servers.{server-below}
-use Rattle.volap_cell.specs.{Commands.MayCall, Values.{actor_of}, declared.role.Role.Role}
+use Rattle.whole_steps.specs.seat_steps.specs.declared.floor.{Floor.Floor, Player.Player}
+use Rattle.whole_steps.specs.session_steps.proofs.Servers.{server-below}
+use Rattle.whole_steps.specs.volap_cell.specs.{Commands.MayCall, Values.{actor_of}, declared.role.Role.Role}
 
 abbrev server_in : Class → ℕ
 server_in (Sync server) = server

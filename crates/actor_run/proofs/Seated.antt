@@ -6,12 +6,12 @@ use Rattle.actor_run.specs.Passes.{IsAt}
 use Rattle.row_ledger.specs.{Past.{event_at, session_in}, Right.IsRight, declared.event.Event.Event}
 use Rattle.row_ledger.proofs.{Before.at-later, Growth.IsRight-kept}
 use Rattle.script_run.specs.Places.{begins_of}
-use Rattle.seat_steps.proofs.Since.{nothing-new}
+use Rattle.whole_steps.specs.seat_steps.proofs.Since.{nothing-new}
 use Rattle.turn_table.specs.{Numbered.{Extends, numbers_of, value_of}, Seat.SeatValue, Views.HasAll, declared.view.View.View}
 use Rattle.turn_table.proofs.Numbered.{below_length, there}
-use Rattle.volap_cell.specs.{Setting.{Setting, actor_count, ledger_cell, site_in}, Steps.history_in, Values.{ActorValue, actor_of}, declared.actor.Actor.Actor, declared.cell.Cell.Cell}
-use Rattle.volap_cell.specs.Cells.{CellValue, ledger_in}
-use Rattle.volap_turns.specs.{Wholes.CanBe, Worlds.{IsWorld, is-world}}
+use Rattle.whole_steps.specs.volap_cell.specs.{Setting.{Setting, actor_count, ledger_cell, site_in}, Steps.history_in, Values.{ActorValue, actor_of}, declared.actor.Actor.Actor, declared.cell.Cell.Cell}
+use Rattle.whole_steps.specs.volap_cell.specs.Cells.{CellValue, ledger_in}
+use Rattle.whole_steps.specs.volap_turns.specs.{Wholes.CanBe, Worlds.{IsWorld, is-world}}
 
 -- a state that agrees with a view
 module _ {v : View Cell Actor Event} (p : CanBe v) where

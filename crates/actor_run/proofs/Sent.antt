@@ -21,20 +21,20 @@ use Rattle.dim_hierarchy.proofs.filter.Pick.TheSendSync as pick
 use Rattle.row_ledger.specs.contracts.settings.Use as settings
 use Rattle.actor_run.specs.contracts.passes.Pass as pass
 use Rattle.actor_run.specs.contracts.passes.Pass.TheInside as pass_inside
-use Rattle.seat_steps.specs.contracts.floor.Player as player
+use Rattle.whole_steps.specs.seat_steps.specs.contracts.floor.Player as player
 use Rattle.turn_table.proofs.seat.Seat.TheSendSync as seat
-use Rattle.volap_cell.specs.contracts.actor.Actor as actor
-use Rattle.volap_cell.specs.contracts.actor.About as about
-use Rattle.volap_cell.specs.contracts.errand.Errand as errand
-use Rattle.volap_cell.specs.contracts.errand.Task as task
-use Rattle.volap_cell.specs.contracts.errand.Reading as reading
-use Rattle.volap_cell.specs.contracts.role.Role as role
-use Rattle.volap_cell.proofs.errand.RowErrand.TheSendSync as row_errand
-use Rattle.volap_cell.proofs.boxes.Boxes.TheSendSync as boxes
-use Rattle.volap_cell.proofs.cell.Cell.TheSendSync as cell
-use Rattle.volap_cell.proofs.command.Command.TheSendSync as command
-use Rattle.volap_cell.proofs.job.Job.TheSendSync as job
-use Rattle.volap_cell.proofs.gone_gates.GoneGates.TheSendSync as gone
+use Rattle.whole_steps.specs.volap_cell.specs.contracts.actor.Actor as actor
+use Rattle.whole_steps.specs.volap_cell.specs.contracts.actor.About as about
+use Rattle.whole_steps.specs.volap_cell.specs.contracts.errand.Errand as errand
+use Rattle.whole_steps.specs.volap_cell.specs.contracts.errand.Task as task
+use Rattle.whole_steps.specs.volap_cell.specs.contracts.errand.Reading as reading
+use Rattle.whole_steps.specs.volap_cell.specs.contracts.role.Role as role
+use Rattle.whole_steps.specs.volap_cell.proofs.errand.RowErrand.TheSendSync as row_errand
+use Rattle.whole_steps.specs.volap_cell.proofs.boxes.Boxes.TheSendSync as boxes
+use Rattle.whole_steps.specs.volap_cell.proofs.cell.Cell.TheSendSync as cell
+use Rattle.whole_steps.specs.volap_cell.proofs.command.Command.TheSendSync as command
+use Rattle.whole_steps.specs.volap_cell.proofs.job.Job.TheSendSync as job
+use Rattle.whole_steps.specs.volap_cell.proofs.gone_gates.GoneGates.TheSendSync as gone
 
 -- a snapshot owns nothing
 snapshot_send : (Y : RattleType) → IsSend (as_row (snapshot.the_field Y))

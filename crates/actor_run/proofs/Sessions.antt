@@ -2,16 +2,16 @@
 use Rattle.std.proofs.Common.{◌≡◌, ◌∙◌, ℕ, ◌<◌, ◌≤◌, ◌^◌, List, [], ◌∷◌, ◌++◌, length, Some, None, Result, refl, sym, ap, subst, arith}
 use Rattle.actor_run.specs.{Doing.{HasDone, HasRefused}, Driving.EndsSince, Sessions.{BeganNothing, Began, IsNewest, IsOneEvent, IsSession, SessionValue, session_of}}
 use Rattle.actor_run.proofs.Chains.{began, extends-length, goes-on, refused-behind}
-use Rattle.core_image.specs.Told.{refused_by, unknown_by}
+use Rattle.whole_steps.specs.core_image.specs.Told.{refused_by, unknown_by}
 use Rattle.row_ledger.specs.{Past.session_in, Right.IsRight, Site.{Site, site_of}, declared.event.Event.Event}
 use Rattle.row_ledger.specs.declared.event.Event.TheVariants.{Refused, Unknown}
 use Rattle.script_run.specs.Places.{begins_of}
-use Rattle.seat_steps.specs.{Booked.{HasPushed, IsAsBefore}, Floors.{Stands}, declared.floor.{Floor.Floor, Player.Player}}
-use Rattle.session_steps.specs.{Begins.{CanBegin, HasNoted}, declared.commands.End.End}
-use Rattle.session_steps.proofs.Heard.{begun-nothing, numbered, right-seen}
-use Rattle.seat_steps.proofs.Since.{extends-on}
+use Rattle.whole_steps.specs.seat_steps.specs.{Booked.{HasPushed, IsAsBefore}, Floors.{Stands}, declared.floor.{Floor.Floor, Player.Player}}
+use Rattle.whole_steps.specs.session_steps.specs.{Begins.{CanBegin, HasNoted}, declared.commands.End.End}
+use Rattle.whole_steps.specs.session_steps.proofs.Heard.{begun-nothing, numbered, right-seen}
+use Rattle.whole_steps.specs.seat_steps.proofs.Since.{extends-on}
 use Rattle.turn_table.specs.Numbered.{Extends}
-use Rattle.volap_cell.specs.{Commands.server_of, ImageKinds.{IsFree, doing}, Setting.{Setting, actor_count, site_in}, Values.{ActorValue, actor_of}, declared.command.Work.Work}
+use Rattle.whole_steps.specs.volap_cell.specs.{Commands.server_of, ImageKinds.{IsFree, doing}, Setting.{Setting, actor_count, site_in}, Values.{ActorValue, actor_of}, declared.command.Work.Work}
 
 module _ (f : Floor) (server : ℕ) (was : Player) (s : IsSession f server was) where
   abbrev pub a : ActorValue

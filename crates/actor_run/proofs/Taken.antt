@@ -6,11 +6,11 @@ use native.Mathlib.Decide.{ℕ_discrete, dec_lt}
 use Rattle.actor_run.specs.Passes.{ArePasses, HasTaken, IsAbout, IsAt, IsIn, IsOut, IsPass, IsPassOf, IsPassesOf, pass_of, passes_of}
 use Rattle.actor_run.proofs.{Missing.{out-more, out-none, out-once}, Seated.{role-of, setting-of, still-at}}
 use Rattle.row_ledger.specs.{Right.IsRight, declared.event.Event.Event}
-use Rattle.seat_steps.specs.declared.floor.Floor.{Floor}
+use Rattle.whole_steps.specs.seat_steps.specs.declared.floor.Floor.{Floor}
 use Rattle.turn_table.specs.{Numbered.{value_of, without}, Seat.{SeatValue, cell_count}, Views.{after_split, lone, split_view}}
 use Rattle.turn_table.proofs.Numbered.{find_here, found, without_else, without_here}
-use Rattle.volap_cell.specs.{Setting.{Setting, actor_count, site_in}, Sights.IsIdle, Values.{ActorValue, actor_of}, declared.actor.Actor.Actor, declared.cell.Cell.Cell}
-use Rattle.volap_turns.specs.{Rule.Rests, Wholes.CanBe}
+use Rattle.whole_steps.specs.volap_cell.specs.{Setting.{Setting, actor_count, site_in}, Sights.IsIdle, Values.{ActorValue, actor_of}, declared.actor.Actor.Actor, declared.cell.Cell.Cell}
+use Rattle.whole_steps.specs.volap_turns.specs.{Rule.Rests, Wholes.CanBe}
 
 module _ {s : SeatValue Cell Actor Event} {own : Actor} {actors : List (Option Actor)} (are : ArePasses s own actors) where
   abbrev about : Setting

@@ -3,8 +3,8 @@ use Rattle.std.proofs.{Common.{◌≡◌, ◌∙◌, ℕ, suc, zero, ◌+◌, �
 use Rattle.actor_run.specs.{Halls.{IsHallFor, hall_setting}, Sessions.IsSessionRole}
 use Rattle.dim_hierarchy.specs.Dimension.{Dimension, IsHierarchy}
 use Rattle.row_ledger.specs.declared.settings.Use.{Use}
-use Rattle.volap_cell.specs.{Numbering.IsRoleOf, declared.role.Role.Role}
-use Rattle.volap_cell.specs.declared.role.Role.TheVariants.{Admin, Session}
+use Rattle.whole_steps.specs.volap_cell.specs.{Numbering.IsRoleOf, declared.role.Role.Role}
+use Rattle.whole_steps.specs.volap_cell.specs.declared.role.Role.TheVariants.{Admin, Session}
 
 -- the hall's own role stands behind those of sessions
 own-last : (roles : List Role) → All IsSessionRole roles → (a : ℕ) → slice_get (roles ++ Admin ∷ []) a ≡ Some Admin → a ≡ length roles

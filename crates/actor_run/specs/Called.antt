@@ -3,7 +3,7 @@ use Rattle.std.specs.Prelude.{ℕ, ◌≡◌, ◌≤◌, ◌⊎◌, List, [], �
 use Rattle.row_ledger.specs.{Past.event_at, Right.IsRight, Site.site_of, declared.event.Event.Event, declared.settings.{Call.Call, How.How}}
 use Rattle.row_ledger.specs.declared.{event.Event.TheVariants.{Called, Ended, Refused}, settings.How.TheVariants.NoMemory}
 use Rattle.script_run.specs.{Places.begins_of, Runs.{HasPulls, PullsAlone}}
-use Rattle.seat_steps.specs.declared.floor.Floor.{Floor}
+use Rattle.whole_steps.specs.seat_steps.specs.declared.floor.Floor.{Floor}
 use Rattle.turn_table.specs.Numbered.{Extends}
 
 -- It has seen what it had or more; that is right.

@@ -6,17 +6,17 @@ use Rattle.actor_run.specs.declared.cursor.Visit.{Visit}
 use Rattle.actor_run.specs.declared.cursor.Visit.TheVariants as visit
 use Rattle.actor_run.specs.declared.session.Asked.TheVariants as asked
 use Rattle.actor_run.specs.declared.session.Asked.{Asked as AskedAnswer}
-use Rattle.core_tree.specs.ReadDue.{room_to_note}
+use Rattle.whole_steps.specs.core_tree.specs.ReadDue.{room_to_note}
 use Rattle.dim_hierarchy.specs.{Filter.{IsFilterNamed, IsFilterOf}, declared.filter.{NamePick.NamePick, Pick.Pick}}
-use Rattle.link_descent.specs.Visit.{most_noted}
+use Rattle.whole_steps.specs.link_descent.specs.Visit.{most_noted}
 use Rattle.measure_agg.specs.Aggregate.{Aggregate}
 use Rattle.row_ledger.specs.declared.event.Event.{Event}
 use Rattle.row_ledger.specs.declared.event.Event.TheVariants.{Answered, Asked, Failed}
-use Rattle.part_steps.specs.Reads.{IsBeforeBlocks, VisitsBlock, noted_by}
-use Rattle.seat_steps.specs.declared.floor.{Floor.Floor, Player.Player}
-use Rattle.session_steps.specs.Begins.{HasAsked}
+use Rattle.whole_steps.specs.part_steps.specs.Reads.{IsBeforeBlocks, VisitsBlock, noted_by}
+use Rattle.whole_steps.specs.seat_steps.specs.declared.floor.{Floor.Floor, Player.Player}
+use Rattle.whole_steps.specs.session_steps.specs.Begins.{HasAsked}
 use Rattle.turn_table.specs.Numbered.{Extends}
-use Rattle.volap_cell.specs.Values.{ActorValue, actor_of}
+use Rattle.whole_steps.specs.volap_cell.specs.Values.{ActorValue, actor_of}
 
 -- The session as it was, where the query began and with which filter, the history that is seen now, what the actor is at, how many
 -- blocks it can note without memory, how many tries at its seat were refused, and which cell the last of these was at and which word

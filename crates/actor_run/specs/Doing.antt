@@ -2,7 +2,7 @@
 use Rattle.std.specs.Prelude.{ℕ, Bool, true, false, Result, Ok, Err}
 use Rattle.actor_run.specs.Sessions.{BeganNothing, GoesOn, IsOneEvent, IsSession, SessionValue, session_of}
 use Rattle.row_ledger.specs.declared.event.Event.TheVariants.{Refused, Unknown}
-use Rattle.seat_steps.specs.declared.floor.{Floor.Floor, Player.Player}
+use Rattle.whole_steps.specs.seat_steps.specs.declared.floor.{Floor.Floor, Player.Player}
 
 -- The seat is that of a session as before, which has gone on so.
 pub record HasDone (f : Floor) (Ends : SessionValue → SessionValue → Type 0) (server : ℕ) (was now : Player) : Type 0 where

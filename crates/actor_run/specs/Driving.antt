@@ -2,10 +2,10 @@
 use Rattle.std.specs.Prelude.{ℕ, ◌≡◌, ◌≤◌, List, ◌∷◌, length, Option, Some, None}
 use Rattle.row_ledger.specs.{Right.IsRight, declared.event.Event.Event}
 use Rattle.script_run.specs.Places.{begins_of}
-use Rattle.seat_steps.specs.{Floors.Stands, declared.floor.{Floor.Floor, Player.Player}}
-use Rattle.session_steps.specs.{Commands.{IsEndFor, IsEndOf, IsFurtherWork, IsOfSession}, declared.commands.End.End}
+use Rattle.whole_steps.specs.seat_steps.specs.{Floors.Stands, declared.floor.{Floor.Floor, Player.Player}}
+use Rattle.whole_steps.specs.session_steps.specs.{Commands.{IsEndFor, IsEndOf, IsFurtherWork, IsOfSession}, declared.commands.End.End}
 use Rattle.turn_table.specs.Numbered.{Extends}
-use Rattle.volap_cell.specs.{ImageKinds.doing, Setting.site_in, Values.{actor_of}, declared.command.Work.Work, declared.role.Role.TheVariants.Session}
+use Rattle.whole_steps.specs.volap_cell.specs.{ImageKinds.doing, Setting.site_in, Values.{actor_of}, declared.command.Work.Work, declared.role.Role.TheVariants.Session}
 
 -- The session has had this command open since it stood so, and has pushed no event of its own since.
 pub record IsOpenSince (f : Floor) (start now : Player) : Type 0 where

@@ -4,9 +4,9 @@ use Rattle.actor_run.specs.Passes.{AreAllIn, IsPassesOf, PassesValue}
 use Rattle.dim_hierarchy.specs.Dimension.{Dimension}
 use Rattle.row_ledger.specs.{Kept.IsOpeningHistory, Right.IsRight, Site.site_of, declared.settings.Use.Use}
 use Rattle.script_run.specs.Places.{begins_of}
-use Rattle.seat_steps.specs.declared.floor.Floor.{Floor}
-use Rattle.volap_cell.specs.{Filling.setting_for, Numbering.IsSetting, Setting.{Setting, site_in}, declared.role.Role.{Role}, declared.role.Role.TheVariants.{Admin, Puller}, declared.state.State.State}
-use Rattle.volap_turns.specs.Wholes.{HasHistory, IsWhole}
+use Rattle.whole_steps.specs.seat_steps.specs.declared.floor.Floor.{Floor}
+use Rattle.whole_steps.specs.volap_cell.specs.{Filling.setting_for, Numbering.IsSetting, Setting.{Setting, site_in}, declared.role.Role.{Role}, declared.role.Role.TheVariants.{Admin, Puller}, declared.state.State.State}
+use Rattle.whole_steps.specs.volap_turns.specs.Wholes.{HasHistory, IsWhole}
 
 abbrev pub is_admin : Role → Bool
 is_admin Admin = true

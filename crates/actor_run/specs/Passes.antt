@@ -4,10 +4,10 @@ use mathlib.Core.Option.{some, none}
 use Rattle.atomic_table.specs.Seated.{TableId}
 use Rattle.row_ledger.specs.{Right.IsRight, declared.event.Event.Event}
 use Rattle.script_run.specs.Places.{begins_of}
-use Rattle.seat_steps.specs.declared.floor.{Floor.Floor, Player.Player}
+use Rattle.whole_steps.specs.seat_steps.specs.declared.floor.{Floor.Floor, Player.Player}
 use Rattle.turn_table.specs.{Numbered.{Extends, value_of}, Seat.{SeatValue, cell_count}}
-use Rattle.volap_cell.specs.{Setting.{Setting, actor_count, site_in}, Sights.IsIdle, Values.actor_of, declared.actor.Actor.Actor, declared.cell.Cell.Cell, declared.role.{Role.Role, Role.TheVariants.Admin}}
-use Rattle.volap_turns.specs.{Seats.Holds, Wholes.CanBe}
+use Rattle.whole_steps.specs.volap_cell.specs.{Setting.{Setting, actor_count, site_in}, Sights.IsIdle, Values.actor_of, declared.actor.Actor.Actor, declared.cell.Cell.Cell, declared.role.{Role.Role, Role.TheVariants.Admin}}
+use Rattle.whole_steps.specs.volap_turns.specs.{Seats.Holds, Wholes.CanBe}
 use Rattle.whole_steps.specs.Seats.{no_seat}
 
 -- One pass.

@@ -13,10 +13,10 @@ use Rattle.actor_run.specs.declared.session.Synced.TheVariants as synced
 use Rattle.actor_run.specs.declared.session.Asked.{Asked as AskedAnswer}
 use Rattle.actor_run.specs.declared.session.Inserted.{Inserted}
 use Rattle.actor_run.specs.declared.session.Synced.{Synced}
-use Rattle.seat_steps.specs.{Floors.Stands, declared.floor.{Floor.Floor, Player.Player}}
-use Rattle.session_steps.specs.Begins.{row_at}
+use Rattle.whole_steps.specs.seat_steps.specs.{Floors.Stands, declared.floor.{Floor.Floor, Player.Player}}
+use Rattle.whole_steps.specs.session_steps.specs.Begins.{row_at}
 use Rattle.turn_table.specs.Numbered.{Extends, value_of}
-use Rattle.volap_cell.specs.{ImageKinds.IsFree, Setting.{actor_count, site_in}, Values.actor_of, declared.actor.Actor.Actor, declared.role.Role.Role, declared.role.Role.TheVariants.Session}
+use Rattle.whole_steps.specs.volap_cell.specs.{ImageKinds.IsFree, Setting.{actor_count, site_in}, Values.actor_of, declared.actor.Actor.Actor, declared.role.Role.Role, declared.role.Role.TheVariants.Session}
 
 -- Sessions.
 

@@ -9,9 +9,9 @@ use Rattle.row_ledger.specs.declared.settings.Call.TheVariants.{Settle}
 use Rattle.row_ledger.specs.declared.settings.Decline.TheVariants as decline
 use Rattle.row_ledger.specs.declared.settings.How.TheVariants as how
 use Rattle.script_run.specs.Places.{begins_of}
-use Rattle.seat_steps.specs.declared.floor.Floor.{Floor}
+use Rattle.whole_steps.specs.seat_steps.specs.declared.floor.Floor.{Floor}
 use Rattle.turn_table.specs.Numbered.{Extends}
-use Rattle.volap_cell.specs.{Values.actor_of, declared.actor.Actor.Actor}
+use Rattle.whole_steps.specs.volap_cell.specs.{Values.actor_of, declared.actor.Actor.Actor}
 use Rattle.whole_steps.specs.{Done.{IsOfTree, IsPageAt}, Settles.ArePulls}
 use Rattle.whole_steps.specs.declared.settles.Settled.{Settled}
 use Rattle.whole_steps.specs.declared.settles.Settled.TheVariants as settled

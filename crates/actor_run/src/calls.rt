@@ -7,20 +7,22 @@ ghost use Rattle.dim_hierarchy.specs.Filter.{IsFilterNamed, IsFilterOf};
 ghost use Rattle.dim_hierarchy.specs.Names.{IsNamePick};
 ghost use Rattle.dim_hierarchy.specs.Row.{IsCoordNamed, IsCoordOf};
 ghost use Rattle.dim_hierarchy.specs.declared.filter.NamePick.{NamePick};
-ghost use Rattle.seat_steps.specs.Booked.{IsAsBefore};
-ghost use Rattle.session_steps.specs.Begins.{CanBegin, HasAsked};
-ghost use Rattle.seat_steps.specs.Floors.{Stands};
+ghost use Rattle.whole_steps.specs.seat_steps.specs.Booked.{IsAsBefore};
+ghost use Rattle.whole_steps.specs.session_steps.specs.Begins.{CanBegin, HasAsked};
+ghost use Rattle.whole_steps.specs.seat_steps.specs.Floors.{Stands};
 
 use crate::bell::{Bell, wake};
 use crate::driving::drive;
 use crate::session::{Asked, Inserted, Synced};
-use call_steps::Synced as Pulled;
 use dim_hierarchy::{Coord, Filter, FilterFault, Measures, NameFilter, RowNames};
-use seat_steps::{Floor, Player};
-use session_steps::{Begun, End, begin_insert, begin_query, hear, note_refused, note_unknown};
 use std::alloc::{AllocError, Global};
 use std::sync::Wait;
 use volap_io::Meet;
+use whole_steps::call_steps::Synced as Pulled;
+use whole_steps::seat_steps::{Floor, Player};
+use whole_steps::session_steps::{
+    Begun, End, begin_insert, begin_query, hear, note_refused, note_unknown,
+};
 
 /// The session inserts a row of these names and measures. It is an error where memory is wanting and nothing of the insert
 /// stands in the history. `seen` is then how many events the session has seen.
@@ -152,7 +154,7 @@ pub(crate) fn sync<R: Wait>(
     ensures does { HasDone floor.now (EndsSync result) server player.old player.new }
     ensures seen { seen.new ≡ length player.new.seat.view.seen }
 {
-    let answer = match call_steps::sync(rt, alloc, floor, player, server) {
+    let answer = match whole_steps::call_steps::sync(rt, alloc, floor, player, server) {
         Pulled::Ok(_) => Synced::Ok,
         Pulled::Failed(_) => Synced::NoMemory,
         Pulled::NotBegun => {

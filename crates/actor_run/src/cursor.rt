@@ -2,20 +2,20 @@
 ghost use Rattle.std.specs.Prelude.{◌≡◌, ◌≢◌, ◌≤◌, ◌↔◌, Some, None, Ok, IfOk, IfErr, OnOk};
 ghost use Rattle.actor_run.specs.Cursors.{HasFinished, HasRoom, Visited, WasRefused};
 ghost use Rattle.actor_run.specs.declared.cursor.Visit.TheVariants.{NonePending};
-ghost use Rattle.part_steps.specs.Reads.{noted_by};
+ghost use Rattle.whole_steps.specs.part_steps.specs.Reads.{noted_by};
 
 use crate::driving::drive;
 use crate::hall::Hall;
 use crate::session::{Asked, Session};
 use dim_hierarchy::Filter;
-use seat_steps::Player;
-use session_steps::{End, noted_by, reserve_notes, try_visit};
 use std::alloc::{AllocError, Global};
 use std::marker::Model;
 use std::snapshot::Snapshot;
 use std::sync::Wait;
 use turn_table::Busy;
 use volap_io::Quiet;
+use whole_steps::seat_steps::Player;
+use whole_steps::session_steps::{End, noted_by, reserve_notes, try_visit};
 
 /// What a try to visit came to.
 #[derive(Clone, Copy)]

@@ -7,22 +7,22 @@ ghost use Rattle.actor_run.specs.Sessions.{IsSessionRole};
 ghost use Rattle.dim_hierarchy.specs.Dimension.{IsHierarchy};
 ghost use Rattle.dim_hierarchy.specs.Names.{IsNamePick};
 ghost use Rattle.turn_table.specs.Numbered.{value_of};
-ghost use Rattle.volap_cell.specs.declared.actor.Actor.{Actor};
-ghost use Rattle.volap_cell.specs.declared.role.Role.TheVariants.{Admin, Session as OfSession};
-ghost use Rattle.volap_turns.specs.Rule.{Needs};
+ghost use Rattle.whole_steps.specs.volap_cell.specs.declared.actor.Actor.{Actor};
+ghost use Rattle.whole_steps.specs.volap_cell.specs.declared.role.Role.TheVariants.{Admin, Session as OfSession};
+ghost use Rattle.whole_steps.specs.volap_turns.specs.Rule.{Needs};
 
 use crate::{Asked, Busy, Cursor, Hall, Inserted, Pass, Passes, Session, Visit};
 use dim_hierarchy::{Hierarchy, Name, NameFilter, NamePick, Names, RowNames};
 use row_ledger::Use;
-use seat_steps::Player;
-use session_steps::noted_by;
 use std::alloc::{AllocError, Global};
 use std::sync::Wait;
 use std::test::Fail;
 use turn_table::Seat;
-use volap_cell::{Role, RoleList};
 use volap_io::Quiet;
-use volap_turns::Volap;
+use whole_steps::seat_steps::Player;
+use whole_steps::session_steps::noted_by;
+use whole_steps::volap_cell::{Role, RoleList};
+use whole_steps::volap_turns::Volap;
 
 /// One dimension with two cities.
 fn two_cities(alloc: Global) -> Result<Hierarchy, Fail>

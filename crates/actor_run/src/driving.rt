@@ -1,16 +1,16 @@
 //! A session's open command, to its end.
 ghost use Rattle.std.specs.Prelude.{◌≡◌};
 ghost use Rattle.actor_run.specs.Driving.{EndsSince, GoesSince, IsOpenSince};
-ghost use Rattle.seat_steps.specs.declared.floor.Player.{Player};
+ghost use Rattle.whole_steps.specs.seat_steps.specs.declared.floor.Player.{Player};
 
 use crate::bell::Bell;
-use part_steps::{Did, go_on_at_part};
-use seat_steps::{Floor, Player};
-use session_steps::{End, Next, go_on_with_command};
 use std::alloc::Global;
 use std::sync::Wait;
-use volap_cell::{Actor, Command, Work};
 use volap_io::Meet;
+use whole_steps::part_steps::{Did, go_on_at_part};
+use whole_steps::seat_steps::{Floor, Player};
+use whole_steps::session_steps::{End, Next, go_on_with_command};
+use whole_steps::volap_cell::{Actor, Command, Work};
 
 /// The session goes on with its command until it ends: it makes the steps of its parts itself, and sleeps where its server's desk
 /// has the command of another session, or another actor is at the last part.

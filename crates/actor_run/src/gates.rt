@@ -7,23 +7,23 @@ ghost use Rattle.actor_run.specs.Sessions.{EndsQuery, IsSession};
 ghost use Rattle.dim_hierarchy.specs.Filter.{IsFilterNamed, IsFilterOf};
 ghost use Rattle.dim_hierarchy.specs.Names.{IsNamePick};
 ghost use Rattle.dim_hierarchy.specs.declared.filter.NamePick.{NamePick};
-ghost use Rattle.part_steps.specs.Reads.{IsBeforeBlocks};
-ghost use Rattle.seat_steps.specs.declared.floor.Player.{Player};
-ghost use Rattle.volap_cell.specs.ImageKinds.{doing};
-ghost use Rattle.volap_cell.specs.Values.{actor_of};
-ghost use Rattle.volap_cell.specs.declared.command.Work.TheVariants.{Query};
+ghost use Rattle.whole_steps.specs.part_steps.specs.Reads.{IsBeforeBlocks};
+ghost use Rattle.whole_steps.specs.seat_steps.specs.declared.floor.Player.{Player};
+ghost use Rattle.whole_steps.specs.volap_cell.specs.ImageKinds.{doing};
+ghost use Rattle.whole_steps.specs.volap_cell.specs.Values.{actor_of};
+ghost use Rattle.whole_steps.specs.volap_cell.specs.declared.command.Work.TheVariants.{Query};
 
 use crate::bell::Bell;
 use crate::calls::{ask, filter_for, refuse};
 use crate::session::Asked;
 use dim_hierarchy::{Filter, NameFilter};
-use part_steps::go_on_at_part;
-use seat_steps::{Floor, Player};
-use session_steps::take_waiting;
 use std::alloc::Global;
 use std::snapshot::Snapshot;
 use std::sync::Wait;
-use volap_cell::Task;
+use whole_steps::part_steps::go_on_at_part;
+use whole_steps::seat_steps::{Floor, Player};
+use whole_steps::session_steps::take_waiting;
+use whole_steps::volap_cell::Task;
 
 /// The session begins a query with these picks by name, and goes on with it until it has read a gate, or no part of it waits. The
 /// answer is where it began, and its filter for contracts. Where the query can't begin, `seen` is then how many events the session

@@ -4,18 +4,18 @@ ghost use Rattle.std.specs.Prelude.{◌≡◌, ◌<◌, IfOk, vec_len, vec_capac
 ghost use Rattle.actor_run.specs.Halls.{HasClosed, HasOpened, IsHallFor, hall_setting, is_admin, own_role};
 ghost use Rattle.actor_run.specs.Opened.{IsOpenedTable};
 ghost use Rattle.actor_run.specs.Passes.{AreAllIn, IsPassesOf};
-ghost use Rattle.volap_turns.specs.Rule.{all_there};
+ghost use Rattle.whole_steps.specs.volap_turns.specs.Rule.{all_there};
 
 use crate::bell::{Bell, bells};
 use crate::passes::Passes;
 use dim_hierarchy::Hierarchy;
 use row_ledger::Use;
-use seat_steps::Floor;
 use std::alloc::{AllocError, Global};
 use std::marker::Model;
 use turn_table::{Seat, TurnTable};
-use volap_cell::{Actor, Role, RoleList, State};
-use volap_turns::{Volap, close, open, opening_is_whole};
+use whole_steps::seat_steps::Floor;
+use whole_steps::volap_cell::{Actor, Role, RoleList, State};
+use whole_steps::volap_turns::{Volap, close, open, opening_is_whole};
 
 /// The cells of a core under turns, for as many threads as there are passes. Contracts see its dimensions, its settings and its table.
 #[derive(Drop)]
@@ -32,7 +32,7 @@ impl Model for Hall {
     ghost use Rattle.std.specs.Prelude.{◌≡◌, ◌<◌, length, vec_len};
     ghost use Rattle.dim_hierarchy.specs.Stored.{dimension_code};
     ghost use Rattle.std.specs.Coded.{codes};
-    ghost use Rattle.seat_steps.specs.declared.floor.Floor.{Floor};
+    ghost use Rattle.whole_steps.specs.seat_steps.specs.declared.floor.Floor.{Floor};
 
     ghost Value = { Floor };
 
@@ -148,7 +148,11 @@ fn opened(
     let own = own_role(roles.as_slice());
     roles.push(own)?;
     opening_is_whole();
-    open(alloc, h, volap_cell::open(alloc, h, with, roles)?)
+    open(
+        alloc,
+        h,
+        whole_steps::volap_cell::open(alloc, h, with, roles)?,
+    )
 }
 
 /// The role of the hall's own actor, which is the administrator where none of these is that.

@@ -23,3 +23,7 @@ pub use passes::{Pass, Passes};
 pub use session::{Asked, Inserted, Session, Synced};
 pub use turn_table::Busy;
 pub use whole::TreeFault;
+
+// What stands below is passed on.
+pub use whole_steps;
+pub use whole_steps::{call_steps, session_steps, volap_cell};

@@ -1,15 +1,15 @@
 //! The passes of a hall.
 ghost use Rattle.std.specs.Prelude.{◌≡◌, ◌+◌, ◌^◌, ◌<◌, IfSome, IfNone, None, Some, get_or, length, set, vec_len, vec_capacity};
-ghost use Rattle.volap_cell.specs.Setting.{actor_count};
+ghost use Rattle.whole_steps.specs.volap_cell.specs.Setting.{actor_count};
 ghost use Rattle.actor_run.specs.Passes.{HasGiven, HasTaken, IsOut, IsPass, IsPassOf, IsPassesOf, pass_of};
 
 use crate::hall::Hall;
-use seat_steps::Player;
 use std::marker::Model;
 use std::mem::{forget, replace};
 use turn_table::Seat;
-use volap_cell::Actor;
-use volap_turns::Volap;
+use whole_steps::seat_steps::Player;
+use whole_steps::volap_cell::Actor;
+use whole_steps::volap_turns::Volap;
 
 /// An actor of a hall, with nothing to do, and its seat, which holds no cell. Contracts see its table, its setting, its
 /// role, its number and the history that it has seen.

@@ -13,14 +13,14 @@ use crate::hall::Hall;
 use crate::passes::Pass;
 use dim_hierarchy::{Measures, NameFilter, RowNames};
 use measure_agg::Agg;
-use seat_steps::Player;
-use session_steps::{come, empty_purse, hear, leave};
 use std::alloc::{AllocError, Global};
 use std::marker::Model;
 use std::snapshot::Snapshot;
 use std::sync::Wait;
-use volap_cell::Role;
 use volap_io::Meet;
+use whole_steps::seat_steps::Player;
+use whole_steps::session_steps::{come, empty_purse, hear, leave};
+use whole_steps::volap_cell::Role;
 
 /// How an insert ended.
 #[derive(Clone, Copy)]

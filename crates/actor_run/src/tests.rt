@@ -2,14 +2,14 @@
 ghost use Rattle.std.specs.Prelude.{◌≡◌, ◌<◌, [], ◌∷◌, length, IfOk};
 ghost use Rattle.actor_run.specs.Passes.{AreAllIn, IsPassesOf};
 ghost use Rattle.dim_hierarchy.specs.Dimension.{IsHierarchy};
-ghost use Rattle.volap_cell.specs.declared.role.Role.TheVariants.{Session};
+ghost use Rattle.whole_steps.specs.volap_cell.specs.declared.role.Role.TheVariants.{Session};
 
 use crate::{Hall, Passes};
 use dim_hierarchy::{Hierarchy, Name};
 use row_ledger::Use;
 use std::alloc::{AllocError, Global};
 use std::test::Fail;
-use volap_cell::{Cell, Role, RoleList, State};
+use whole_steps::volap_cell::{Cell, Role, RoleList, State};
 
 /// One dimension, with no concept but the one of all.
 fn one_dimension(alloc: Global) -> Result<Hierarchy, AllocError>

@@ -9,17 +9,17 @@ ghost use Rattle.row_ledger.specs.declared.settings.Call.TheVariants.{Audit, Bar
 ghost use Rattle.row_ledger.specs.declared.settings.How.TheVariants.{Fine};
 ghost use Rattle.script_run.specs.Places.{begins_of};
 ghost use Rattle.turn_table.specs.Numbered.{Extends};
-ghost use Rattle.volap_cell.specs.Values.{actor_of};
+ghost use Rattle.whole_steps.specs.volap_cell.specs.Values.{actor_of};
 
 use crate::hall::Hall;
 use crate::passes::{Passes, put, taken};
 use row_ledger::{Call, History, Page, Subject};
-use seat_steps::Floor;
 use std::alloc::{AllocError, Global};
 use std::sync::Wait;
 use turn_table::Seat;
-use volap_cell::{Actor, Role};
-use volap_turns::Volap;
+use whole_steps::seat_steps::Floor;
+use whole_steps::volap_cell::{Actor, Role};
+use whole_steps::volap_turns::Volap;
 use whole_steps::{Paged, Settled, call_barrier, call_page, call_settle, copy_history};
 
 /// Why the page of a tree isn't shown.

@@ -1,14 +1,14 @@
 -- A balance that is at an action isn't at its end.
 use Rattle.std.proofs.Common.{◌≡◌, ◌∙◌, ℕ, ◌<◌, List, length, Option, Some, None, sym, ap, subst, arith}
-use Rattle.core_image.proofs.Commands.NextAction.{inside, next-action}
+use Rattle.session_steps.specs.core_image.proofs.Commands.NextAction.{inside, next-action}
 use Rattle.list_words.proofs.Elements.{Some-same}
 use Rattle.row_ledger.specs.declared.settings.How.{How}
 use Rattle.row_ledger.specs.declared.settings.How.TheVariants as how
-use Rattle.seat_steps.proofs.Around.{around}
-use Rattle.seat_steps.specs.{Floors.IsSeated, declared.floor.{Floor.Floor, Player.Player}}
+use Rattle.session_steps.specs.seat_steps.proofs.Around.{around}
+use Rattle.session_steps.specs.seat_steps.specs.{Floors.IsSeated, declared.floor.{Floor.Floor, Player.Player}}
 use Rattle.shard_plan.specs.declared.action.Action.{Action}
-use Rattle.volap_cell.specs.{Commands.EndsBalance, ImageKinds.doing, Planning.next_job, Values.{ActorValue, JobValue, actor_of}, Working.{IsJobOf, begun_job}, declared.command.{Balance.Balance, Command.Command}}
-use Rattle.volap_cell.specs.declared.command.Work.TheVariants as work_is
+use Rattle.session_steps.specs.volap_cell.specs.{Commands.EndsBalance, ImageKinds.doing, Planning.next_job, Values.{ActorValue, JobValue, actor_of}, Working.{IsJobOf, begun_job}, declared.command.{Balance.Balance, Command.Command}}
+use Rattle.session_steps.specs.volap_cell.specs.declared.command.Work.TheVariants as work_is
 
 before-end : (b : Balance) (actions : List Action) (h : How) → b.plan ≡ Some actions → b.over < length actions → EndsBalance b h → ⊥
 before-end b actions (how.Balanced done planned) plan low (x, y, (all, plan_too, z)) =

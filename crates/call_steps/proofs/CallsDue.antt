@@ -1,21 +1,21 @@
 -- What the steps of called commands ask is so, in every state that the seat may be in.
 use Rattle.std.proofs.Common.{◌≡◌, ◌≢◌, ◌∙◌, ℕ, ◌+◌, ◌^◌, ◌<◌, true, false, List, arith, Option, Some, None, refl, sym, ap, subst}
 use Rattle.call_steps.specs.Calls.{CanCall, CanEndCall, CanLeaveAction}
-use Rattle.core_due.proofs.{BooksHeld.{book-prepared, end-prepared, hold-ledger, leave-prepared}, EndsAsked.ended, Holding.{hold-two, prepared}, JobsAsked.left-asked, PullsAsked.{settle-asked, sync-asked}}
-use Rattle.core_due.specs.{Works.pull_due, WorksReady.{IsWorkAsked, most_in}}
-use Rattle.core_image.specs.NotesDue.{CanNoteAsking, CanNoteCalled}
-use Rattle.core_steps.specs.{Books.{book_asks, book_places}, Notes.{note_asks, note_places}, Places.{one_at, two_at, values_at}}
-use Rattle.core_steps.specs.declared.books.BookStep.TheVariants as book
-use Rattle.core_steps.specs.declared.notes.NoteStep.TheVariants as note
+use Rattle.session_steps.specs.core_due.proofs.{BooksHeld.{book-prepared, end-prepared, hold-ledger, leave-prepared}, EndsAsked.ended, Holding.{hold-two, prepared}, JobsAsked.left-asked, PullsAsked.{settle-asked, sync-asked}}
+use Rattle.session_steps.specs.core_due.specs.{Works.pull_due, WorksReady.{IsWorkAsked, most_in}}
+use Rattle.session_steps.specs.core_image.specs.NotesDue.{CanNoteAsking, CanNoteCalled}
+use Rattle.session_steps.specs.core_steps.specs.{Books.{book_asks, book_places}, Notes.{note_asks, note_places}, Places.{one_at, two_at, values_at}}
+use Rattle.session_steps.specs.core_steps.specs.declared.books.BookStep.TheVariants as book
+use Rattle.session_steps.specs.core_steps.specs.declared.notes.NoteStep.TheVariants as note
 use Rattle.dim_hierarchy.specs.Dimension.{Dimension}
 use Rattle.row_ledger.specs.{Classes.class_of, declared.class.Class.Class, declared.settings.{Call.Call, How.How}}
 use Rattle.row_ledger.specs.declared.class.Class.TheVariants as class
-use Rattle.seat_steps.proofs.Around.{around}
-use Rattle.seat_steps.specs.{Booked.IsDue, Floors.{IsAround, IsSeated}, declared.floor.{Floor.Floor, Player.Player}}
+use Rattle.session_steps.specs.seat_steps.proofs.Around.{around}
+use Rattle.session_steps.specs.seat_steps.specs.{Booked.IsDue, Floors.{IsAround, IsSeated}, declared.floor.{Floor.Floor, Player.Player}}
 use Rattle.turn_table.specs.Seat.{cell_count}
-use Rattle.volap_cell.specs.{Cells.{CellValue, TheLedger, TheRegistry}, Commands.{MayCall, MayCallAs, MayNoteEnd, due_pull}, ImageKinds.{IsFree, asks_registry, doing}, Setting.{Setting, image_cell, ledger_cell, registry_cell}, Values.{ActorValue, actor_of}, World.World, declared.command.Work.Work, declared.role.Role.Role}
-use Rattle.volap_cell.specs.declared.command.Work.TheVariants as work_is
-use Rattle.volap_cell.specs.declared.role.Role.TheVariants as role
+use Rattle.session_steps.specs.volap_cell.specs.{Cells.{CellValue, TheLedger, TheRegistry}, Commands.{MayCall, MayCallAs, MayNoteEnd, due_pull}, ImageKinds.{IsFree, asks_registry, doing}, Setting.{Setting, image_cell, ledger_cell, registry_cell}, Values.{ActorValue, actor_of}, World.World, declared.command.Work.Work, declared.role.Role.Role}
+use Rattle.session_steps.specs.volap_cell.specs.declared.command.Work.TheVariants as work_is
+use Rattle.session_steps.specs.volap_cell.specs.declared.role.Role.TheVariants as role
 
 -- who may make a call that asks the registry is the administrator
 admin-asks : (r : Role) (c : Class) → MayCallAs r c → asks_registry c ≡ true → r ≡ role.Admin

@@ -2,24 +2,24 @@
 use Rattle.std.proofs.Common.{◌≡◌, ◌∙◌, ℕ, Bool, true, false, List, [], ◌∷◌, length, Option, Some, None, refl, sym, ap, subst}
 use Rattle.call_steps.proofs.AtAction.{at-action}
 use Rattle.call_steps.specs.Calls.{CanCall, CanEndCall, CanLeaveAction, CanPullFor, HasCalled, HasEndedCall, HasLeftAction, HasPulledFor, this}
-use Rattle.core_image.specs.Told.{called_by, open_of}
-use Rattle.core_told.proofs.Pulling.{ending-law}
-use Rattle.core_steps.specs.{Books.{book_kind, book_places, book_tells}, Notes.{note_kind, note_places, note_tells}, Places.{one_at, two_at}}
-use Rattle.core_steps.specs.declared.books.BookStep.TheVariants as book
-use Rattle.core_steps.specs.declared.notes.NoteStep.TheVariants as note
+use Rattle.session_steps.specs.core_image.specs.Told.{called_by, open_of}
+use Rattle.session_steps.specs.core_told.proofs.Pulling.{ending-law}
+use Rattle.session_steps.specs.core_steps.specs.{Books.{book_kind, book_places, book_tells}, Notes.{note_kind, note_places, note_tells}, Places.{one_at, two_at}}
+use Rattle.session_steps.specs.core_steps.specs.declared.books.BookStep.TheVariants as book
+use Rattle.session_steps.specs.core_steps.specs.declared.notes.NoteStep.TheVariants as note
 use Rattle.dim_hierarchy.specs.Dimension.{Dimension}
 use Rattle.list_words.proofs.Elements.{Some-same}
 use Rattle.row_ledger.specs.{Classes.class_of, declared.event.Event.Event, declared.settings.{Call.Call, How.How}}
 use Rattle.row_ledger.specs.declared.event.Event.TheVariants as event
 use Rattle.script_run.specs.Runs.{HasPulls, PullsAlone}
-use Rattle.seat_steps.proofs.{Around.around, HeldLedger.{HasSeenAll, PushesBy, changed, does-held, held_at, history_in, newest, pushed, seen-was, tells-held, told-by}, Since.{mid-same, pushed-since}}
-use Rattle.seat_steps.specs.{Booked.{HasBooked, IsUnchanged}, Floors.IsSeated, Made.HasMade, declared.floor.{Floor.Floor, Player.Player}}
+use Rattle.session_steps.specs.seat_steps.proofs.{Around.around, HeldLedger.{HasSeenAll, PushesBy, changed, does-held, held_at, history_in, newest, pushed, seen-was, tells-held, told-by}, Since.{mid-same, pushed-since}}
+use Rattle.session_steps.specs.seat_steps.specs.{Booked.{HasBooked, IsUnchanged}, Floors.IsSeated, Made.HasMade, declared.floor.{Floor.Floor, Player.Player}}
 use Rattle.server_image.specs.Registry.{RegistryValue}
-use Rattle.volap_cell.specs.{Cells.CellValue, Commands.{MayNoteEnd, after_action, due_pull, once_shown, pulled_once}, ImageKinds.{DoesNote, DoesNoteWith, DoesSync, IsBegun, IsFree, NotesCalled, NotesEnded, NotesLeft, OfCalled, OfCalledAsking, OfCount, OfEnded, OfLeft, OfQuery, OfRefused, OfShown, OfUnknown, OfUnrouted, doing}, Planning.next_job, Setting.{Setting, ledger_cell, registry_cell}, Values.{ActorValue, JobValue, actor_of}, World.{Change, World}, declared.cell.Cell.Cell, declared.command.{Balance.Balance, Command.Command, Work.Work}, declared.kind.Kind.Kind}
-use Rattle.volap_cell.specs.Steps as steps
-use Rattle.volap_cell.specs.declared.command.Work.TheVariants as work_is
-use Rattle.volap_cell.specs.declared.kind.Kind.TheVariants as kind
-use Rattle.volap_turns.specs.Rows.{IsThere}
+use Rattle.session_steps.specs.volap_cell.specs.{Cells.CellValue, Commands.{MayNoteEnd, after_action, due_pull, once_shown, pulled_once}, ImageKinds.{DoesNote, DoesNoteWith, DoesSync, IsBegun, IsFree, NotesCalled, NotesEnded, NotesLeft, OfCalled, OfCalledAsking, OfCount, OfEnded, OfLeft, OfQuery, OfRefused, OfShown, OfUnknown, OfUnrouted, doing}, Planning.next_job, Setting.{Setting, ledger_cell, registry_cell}, Values.{ActorValue, JobValue, actor_of}, World.{Change, World}, declared.cell.Cell.Cell, declared.command.{Balance.Balance, Command.Command, Work.Work}, declared.kind.Kind.Kind}
+use Rattle.session_steps.specs.volap_cell.specs.Steps as steps
+use Rattle.session_steps.specs.volap_cell.specs.declared.command.Work.TheVariants as work_is
+use Rattle.session_steps.specs.volap_cell.specs.declared.kind.Kind.TheVariants as kind
+use Rattle.session_steps.specs.volap_turns.specs.Rows.{IsThere}
 
 -- an actor is at one command
 pub same-work : (of of_too : ℕ) (work work_too : Work) (command : Option Command) → command ≡ doing of work → command ≡ doing of_too work_too → work ≡ work_too

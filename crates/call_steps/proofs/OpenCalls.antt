@@ -8,11 +8,11 @@ use Rattle.row_ledger.specs.{Past.event_at, declared.event.Event.Event, declared
 use Rattle.row_ledger.specs.declared.event.Event.TheVariants.{Called, Ended, Synced}
 use Rattle.script_run.proofs.{Begin.begins-own, PlaceFacts.{begins_of-here, begins_of-other}}
 use Rattle.script_run.specs.{Places.{begins_in, begins_of}, Runs.{HasPulls, PullsAlone}}
-use Rattle.seat_steps.proofs.Since.{extends-on}
-use Rattle.seat_steps.specs.{Booked.IsAsBefore, Floors.IsSeated, declared.floor.{Floor.Floor, Player.Player}}
+use Rattle.session_steps.specs.seat_steps.proofs.Since.{extends-on}
+use Rattle.session_steps.specs.seat_steps.specs.{Booked.IsAsBefore, Floors.IsSeated, declared.floor.{Floor.Floor, Player.Player}}
 use Rattle.session_steps.proofs.Heard.{begun-nothing, numbered}
 use Rattle.turn_table.specs.Numbered.{Extends}
-use Rattle.volap_cell.specs.{Commands.pulled_once, ImageKinds.doing, Values.{ActorValue, JobValue, actor_of}, declared.command.Command.Command}
+use Rattle.session_steps.specs.volap_cell.specs.{Commands.pulled_once, ImageKinds.doing, Values.{ActorValue, JobValue, actor_of}, declared.command.Command.Command}
 
 pub extends-length : (was now : List Event) → Extends now was → length was ≤ length now
 extends-length was now later = omega (arith, ap length later.1, length-append later.0 was)

@@ -3,9 +3,9 @@ use Rattle.std.proofs.Common.{◌≡◌, ◌∙◌, ℕ, ◌≤◌, true, false,
 use Rattle.call_steps.proofs.{CallsMade.same-work, OpenCalls.extends-length}
 use Rattle.call_steps.specs.Calls.{CanCall, CanEndCall, CanPullFor, HasCalled, HasPulledFor}
 use Rattle.row_ledger.specs.declared.settings.{Call.TheVariants.Sync, How.TheVariants.{Fine, NoMemory}}
-use Rattle.seat_steps.specs.{Booked.IsAsBefore, declared.floor.{Floor.Floor, Player.Player}}
-use Rattle.volap_cell.specs.{Commands.pulled_once, ImageKinds.doing, Values.{ActorValue, actor_of}, declared.command.Work.Work}
-use Rattle.volap_cell.specs.declared.command.Work.TheVariants as work_is
+use Rattle.session_steps.specs.seat_steps.specs.{Booked.IsAsBefore, declared.floor.{Floor.Floor, Player.Player}}
+use Rattle.session_steps.specs.volap_cell.specs.{Commands.pulled_once, ImageKinds.doing, Values.{ActorValue, actor_of}, declared.command.Work.Work}
+use Rattle.session_steps.specs.volap_cell.specs.declared.command.Work.TheVariants as work_is
 
 module _ (f : Floor) (server of : ℕ) (start was : Player) (can : CanCall f (Sync server) start) (has : HasCalled f of (Sync server) start was) where
   -- it has not pulled yet

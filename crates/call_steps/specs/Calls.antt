@@ -1,15 +1,15 @@
 -- Commands that are called: what is asked of their actors before each step, and what the step comes to. The newest event comes first.
 use Rattle.std.specs.Prelude.{ℕ, ◌≡◌, ◌≤◌, ◌<◌, List, length, Option, Some, None, false}
-use Rattle.core_image.specs.{NotesDue.MayBeLeft, Told.called_by}
+use Rattle.session_steps.specs.core_image.specs.{NotesDue.MayBeLeft, Told.called_by}
 use Rattle.describing_set.specs.declared.listing.Spot.{Spot}
 use Rattle.row_ledger.specs.{Classes.class_of, declared.event.Event.Event, declared.settings.{Call.Call, How.How}}
 use Rattle.row_ledger.specs.declared.class.Class.TheVariants as class
 use Rattle.row_ledger.specs.declared.event.Event.TheVariants as event
-use Rattle.seat_steps.specs.{Booked.HasPushed, declared.floor.{Floor.Floor, Player.Player}}
+use Rattle.session_steps.specs.seat_steps.specs.{Booked.HasPushed, declared.floor.{Floor.Floor, Player.Player}}
 use Rattle.script_run.specs.Runs.{HasPulls, PullsAlone}
 use Rattle.server_image.specs.Registry.{RegistryValue}
-use Rattle.volap_cell.specs.{Commands.{MayCall, MayNoteEnd, after_action, due_pull, pulled_once}, ImageKinds.{IsBegun, IsFree, LeavesAs, doing}, Planning.next_job, Values.{ActorValue, JobValue, actor_of}, declared.command.{Balance.Balance, Work.Work}}
-use Rattle.volap_cell.specs.declared.command.Work.TheVariants as work_is
+use Rattle.session_steps.specs.volap_cell.specs.{Commands.{MayCall, MayNoteEnd, after_action, due_pull, pulled_once}, ImageKinds.{IsBegun, IsFree, LeavesAs, doing}, Planning.next_job, Values.{ActorValue, JobValue, actor_of}, declared.command.{Balance.Balance, Work.Work}}
+use Rattle.session_steps.specs.volap_cell.specs.declared.command.Work.TheVariants as work_is
 
 -- this event, whoever pushes it and wherever it then stands
 abbrev pub this : Event → ActorValue → ℕ → Event

@@ -3,9 +3,9 @@ use Rattle.std.specs.Prelude.{ℕ, ◌≡◌, ◌≤◌, List, ◌∷◌, [], �
 use Rattle.row_ledger.specs.{Past.event_at, Right.IsRight, declared.event.Event.Event, declared.settings.{Call.Call, How.How}}
 use Rattle.row_ledger.specs.declared.event.Event.TheVariants.{Called, Ended}
 use Rattle.script_run.specs.{Places.begins_of, Runs.{HasPulls, PullsAlone}}
-use Rattle.seat_steps.specs.{Floors.Stands, declared.floor.{Floor.Floor, Player.Player}}
+use Rattle.session_steps.specs.seat_steps.specs.{Floors.Stands, declared.floor.{Floor.Floor, Player.Player}}
 use Rattle.turn_table.specs.Numbered.{Extends}
-use Rattle.volap_cell.specs.{ImageKinds.doing, Setting.site_in, Values.{ActorValue, JobValue, actor_of}, declared.command.{Command.Command, Work.Work}}
+use Rattle.session_steps.specs.volap_cell.specs.{ImageKinds.doing, Setting.site_in, Values.{ActorValue, JobValue, actor_of}, declared.command.{Command.Command, Work.Work}}
 
 -- the actor is as before but for its command, its job, and what it has noted and keeps for them
 abbrev pub IsButCommand : (command : Option Command) (job : Option JobValue) (a b : ActorValue) → Type 0

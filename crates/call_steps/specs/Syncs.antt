@@ -4,7 +4,7 @@ use Rattle.call_steps.specs.Opened.{IsCallDone}
 use Rattle.call_steps.specs.declared.syncs.Synced.{Synced}
 use Rattle.call_steps.specs.declared.syncs.Synced.TheVariants as synced
 use Rattle.row_ledger.specs.declared.settings.{Call.TheVariants.Sync, How.TheVariants.{Fine, NoMemory}}
-use Rattle.seat_steps.specs.{Booked.IsAsBefore, declared.floor.{Floor.Floor, Player.Player}}
+use Rattle.session_steps.specs.seat_steps.specs.{Booked.IsAsBefore, declared.floor.{Floor.Floor, Player.Player}}
 
 -- The server has pulled for the call, which began at this position; or no memory was found for that, or for the call itself, of which nothing
 -- is noted then.

@@ -2,16 +2,16 @@
 ghost use Rattle.std.specs.Prelude.{◌≡◌, true, false, IfOk, OnErr};
 ghost use Rattle.call_steps.specs.Calls.{CanCall, HasCalled};
 ghost use Rattle.row_ledger.specs.Classes.{class_of};
-ghost use Rattle.seat_steps.specs.Booked.{IsAsBefore};
-ghost use Rattle.seat_steps.specs.Floors.{Stands};
-ghost use Rattle.volap_cell.specs.ImageKinds.{asks_registry};
+ghost use Rattle.session_steps.specs.seat_steps.specs.Booked.{IsAsBefore};
+ghost use Rattle.session_steps.specs.seat_steps.specs.Floors.{Stands};
+ghost use Rattle.session_steps.specs.volap_cell.specs.ImageKinds.{asks_registry};
 
-use core_steps::{NoteStep, registry_place};
 use row_ledger::{Call, Class, Subject};
-use seat_steps::{Floor, Player, make_booked, take_first};
+use session_steps::core_steps::{NoteStep, registry_place};
+use session_steps::seat_steps::{Floor, Player, make_booked, take_first};
+use session_steps::volap_cell::there;
 use std::alloc::{AllocError, Global};
 use std::sync::Wait;
-use volap_cell::there;
 
 /// The rank that is told for the registry.
 pub(crate) const REGISTRY: u8 = 6;

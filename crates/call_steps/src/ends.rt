@@ -1,14 +1,14 @@
 //! How commands that are called end, and how a balance leaves an action.
 ghost use Rattle.call_steps.specs.Calls.{CanEndCall, CanLeaveAction, HasEndedCall, HasLeftAction};
-ghost use Rattle.seat_steps.specs.Floors.{Stands};
+ghost use Rattle.session_steps.specs.seat_steps.specs.Floors.{Stands};
 
-use core_due::tell_bytes;
-use core_steps::NoteStep;
 use row_ledger::How;
-use seat_steps::{Floor, Player, make_booked};
+use session_steps::core_due::tell_bytes;
+use session_steps::core_steps::NoteStep;
+use session_steps::seat_steps::{Floor, Player, make_booked};
+use session_steps::volap_cell::there;
 use std::alloc::Global;
 use std::sync::Wait;
-use volap_cell::there;
 
 /// The actor's command ends so. Takes no memory.
 pub fn end_call<R: Wait>(rt: &R, alloc: Global, floor: &Floor, player: &mut Player, how: How)

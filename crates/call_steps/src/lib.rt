@@ -33,3 +33,7 @@ pub use calls::{asks_registry, begin_call};
 pub use ends::{end_call, leave_action};
 pub use pulls::pull;
 pub use syncs::{Synced, sync};
+
+// What stands below is passed on.
+pub use session_steps;
+pub use session_steps::{core_due, core_steps, part_steps, seat_steps, volap_turns};

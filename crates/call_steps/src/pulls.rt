@@ -1,19 +1,19 @@
 //! Pulls of servers, for the command that an actor has called.
 ghost use Rattle.std.specs.Prelude.{◌≡◌, ◌<◌, [], ◌∷◌, None, OnErr, OnOk, Some};
 ghost use Rattle.call_steps.specs.Calls.{CanPullFor, HasPulledFor};
-ghost use Rattle.seat_steps.specs.Booked.{IsAsBefore, IsUnchanged};
-ghost use Rattle.seat_steps.specs.Floors.{IsSeated, Stands};
+ghost use Rattle.session_steps.specs.seat_steps.specs.Booked.{IsAsBefore, IsUnchanged};
+ghost use Rattle.session_steps.specs.seat_steps.specs.Floors.{IsSeated, Stands};
 ghost use Rattle.turn_table.specs.Seat.{cell_count};
-ghost use Rattle.volap_cell.specs.Setting.{image_cell, registry_cell};
-ghost use Rattle.volap_cell.specs.Values.{actor_of};
+ghost use Rattle.session_steps.specs.volap_cell.specs.Setting.{image_cell, registry_cell};
+ghost use Rattle.session_steps.specs.volap_cell.specs.Values.{actor_of};
 
 use crate::calls::REGISTRY;
-use core_due::tell_bytes;
-use core_steps::{BookStep, image_place, registry_place};
-use seat_steps::{Floor, Player, make_booked, take, take_first};
+use session_steps::core_due::tell_bytes;
+use session_steps::core_steps::{BookStep, image_place, registry_place};
+use session_steps::seat_steps::{Floor, Player, make_booked, take, take_first};
+use session_steps::volap_cell::there;
 use std::alloc::{AllocError, Global};
 use std::sync::Wait;
-use volap_cell::there;
 
 /// The rank that is told for an image.
 const IMAGE: u8 = 5;

@@ -3,14 +3,14 @@ ghost use Rattle.std.specs.Prelude.{◌≡◌, ◌<◌};
 ghost use Rattle.call_steps.specs.Calls.{CanCall};
 ghost use Rattle.call_steps.specs.Syncs.{HasSynced};
 ghost use Rattle.row_ledger.specs.declared.settings.Call.TheVariants.{Sync};
-ghost use Rattle.seat_steps.specs.Floors.{Stands};
-ghost use Rattle.volap_cell.specs.Values.{actor_of};
+ghost use Rattle.session_steps.specs.seat_steps.specs.Floors.{Stands};
+ghost use Rattle.session_steps.specs.volap_cell.specs.Values.{actor_of};
 
 use crate::calls::begin_call;
 use crate::ends::end_call;
 use crate::pulls::pull;
 use row_ledger::{Call, How};
-use seat_steps::{Floor, Player};
+use session_steps::seat_steps::{Floor, Player};
 use std::alloc::Global;
 use std::sync::Wait;
 

@@ -9,10 +9,10 @@ use Rattle.list_words.proofs.{Each.{among-left, among-right, each-both, each-app
 use Rattle.mapping_table.specs.declared.place.Where.{Where}
 use Rattle.row_ledger.specs.{LedgerValue.LedgerValue, declared.event.Event.Event}
 use Rattle.server_image.specs.Registry.{RegistryValue}
-use Rattle.shard_store.specs.declared.gate.Gate.{Gate}
-use Rattle.volap_cell.specs.{AdminKinds.{Finishes, TurnsStock}, Cells.{BlockCell, CellValue, DeskCell, FreeCell, GateCell, ImageCell, LedgerCell, MapCell, MapOf, OfStock, RegistryCell, StockCell, Tag, TheLedger, TheRegistry, TheStock, active_in, gate_shard, ledger_in, pins_in, registry_in, stock_in, tag_of, where_in}, Ghost.Ghost, Invariant.InvWith, Setting.{Setting, ledger_cell, map_cell}, TreeKinds.TurnsGate, Values.{ActorValue, JobValue}, View.{View, view}, World.{Agrees, Change, World, after, put}, declared.command.Work.Work}
-use Rattle.volap_cell.specs.declared.command.Work.TheVariants as work_is
-use Rattle.volap_cell.proofs.{Cells.Numbers.{at-ledger, at-map, at-registry, at-stock}, Views.Fields.IsNew, Views.Frames.{AreApartCells, AreAt, put-at}, Views.Touches.{IsBlank, turned}}
+use Rattle.core_tree.specs.shard_store.specs.declared.gate.Gate.{Gate}
+use Rattle.core_tree.specs.volap_cell.specs.{AdminKinds.{Finishes, TurnsStock}, Cells.{BlockCell, CellValue, DeskCell, FreeCell, GateCell, ImageCell, LedgerCell, MapCell, MapOf, OfStock, RegistryCell, StockCell, Tag, TheLedger, TheRegistry, TheStock, active_in, gate_shard, ledger_in, pins_in, registry_in, stock_in, tag_of, where_in}, Ghost.Ghost, Invariant.InvWith, Setting.{Setting, ledger_cell, map_cell}, TreeKinds.TurnsGate, Values.{ActorValue, JobValue}, View.{View, view}, World.{Agrees, Change, World, after, put}, declared.command.Work.Work}
+use Rattle.core_tree.specs.volap_cell.specs.declared.command.Work.TheVariants as work_is
+use Rattle.core_tree.specs.volap_cell.proofs.{Cells.Numbers.{at-ledger, at-map, at-registry, at-stock}, Views.Fields.IsNew, Views.Frames.{AreApartCells, AreAt, put-at}, Views.Touches.{IsBlank, turned}}
 
 -- each change is of another cell, or leaves what f tells
 put-keeps : {A : Type 0} (f : CellValue → A) (cs : List Change) (cells : ℕ → CellValue) (y : ℕ) → AreAt cells cs → Each (λ d. d.number ≡ y → f d.now ≡ f d.before) cs → f (put cs cells y) ≡ f (cells y)

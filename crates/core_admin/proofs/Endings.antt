@@ -7,16 +7,16 @@ use Rattle.list_words.proofs.Truth.{on_bool}
 use Rattle.dim_hierarchy.specs.declared.row.Row.{Row}
 use Rattle.row_ledger.proofs.{Growth.KeepsRight-ended, Positions.before-older}
 use Rattle.shard_plan.specs.{declared.action.Action.Action, declared.action.Load.Load}
-use Rattle.shard_store.specs.{declared.gate.Phase.Phase, declared.gate.Phase.TheVariants.Gone}
-use Rattle.tree_shape.specs.{Laws.OtherLaw, Shape.{Shape, numbers}}
-use Rattle.volap_cell.specs.{AdminKinds.{Finishes, PushesBoth, HasJob}, Cells.{CellValue, GateCell, LedgerCell, gate_shard, ledger_in, phase_of}, Commands.{after_action, owes}, Desking.Desking, Errands.ReadPart, Falls.{control_of, job_left, left, of_work, plenty}, Ghost.{AGate, Ghost, InPurse, InTree, Owner}, Growing.{Growing, Queueing, Resting}, ImageKinds.{Pushes, doing}, Imaging.{Covering, Imaging}, Invariant.InvWith, Lineage.Lineage, Owing.{Owing, owed_by}, Placing.{Inserting, Placing}, Planning.{job_for, next_job}, Querying.{IsInTreeOf, Querying}, Reusing.{Reusing, is_gone}, Setting.{Setting, actor_count, cell_count, ledger_cell, site_in}, Steps.history_in, Telling.{IsCalledAs, IsProgress, Telling}, Values.{ActorValue, JobValue, IsCalled, BuildingValue, Builds}, View.{View, row_at, view}, Working.{Balancing, IsBalancing, IsJobOf, action_of, begun_job}, World.{Change, World}, declared.command.Balance.Balance, declared.command.Command.Command, declared.command.Work.Work, declared.role.Role.Role, declared.role.Role.TheVariants.Admin}
-use Rattle.volap_cell.proofs.{OneEvent.Known.{AreOlder, older-rows}, OneEvent.Noted.telling-goes-on, OneEvent.Older.{call-kept, query-same}, OneEvent.Quiet.{covering-quiet, desking-quiet, desks-older, imaging-quiet, inserting-quiet, lineage-quiet, placing-quiet, querying-quiet, readers-older, resting-quiet}, OneEvent.Reads.{ReadersTake, pinned-whole, readers-take, reading-rows-older}, OneEvent.Told.{called-kept, commands-older}, OneEvent.Trees.{growing-grown, past-there, queueing-grown}, Persons.{has-command, only-admin}, Reusing.{more-off, more-there, reusing-turned, stands-off}, Views.Admin.by_finish, Views.Fields.{IsNew, IsNewAt, IsPushed, pushed-new}, Views.Seen.renewed}
+use Rattle.core_tree.specs.shard_store.specs.{declared.gate.Phase.Phase, declared.gate.Phase.TheVariants.Gone}
+use Rattle.core_tree.specs.tree_shape.specs.{Laws.OtherLaw, Shape.{Shape, numbers}}
+use Rattle.core_tree.specs.volap_cell.specs.{AdminKinds.{Finishes, PushesBoth, HasJob}, Cells.{CellValue, GateCell, LedgerCell, gate_shard, ledger_in, phase_of}, Commands.{after_action, owes}, Desking.Desking, Errands.ReadPart, Falls.{control_of, job_left, left, of_work, plenty}, Ghost.{AGate, Ghost, InPurse, InTree, Owner}, Growing.{Growing, Queueing, Resting}, ImageKinds.{Pushes, doing}, Imaging.{Covering, Imaging}, Invariant.InvWith, Lineage.Lineage, Owing.{Owing, owed_by}, Placing.{Inserting, Placing}, Planning.{job_for, next_job}, Querying.{IsInTreeOf, Querying}, Reusing.{Reusing, is_gone}, Setting.{Setting, actor_count, cell_count, ledger_cell, site_in}, Steps.history_in, Telling.{IsCalledAs, IsProgress, Telling}, Values.{ActorValue, JobValue, IsCalled, BuildingValue, Builds}, View.{View, row_at, view}, Working.{Balancing, IsBalancing, IsJobOf, action_of, begun_job}, World.{Change, World}, declared.command.Balance.Balance, declared.command.Command.Command, declared.command.Work.Work, declared.role.Role.Role, declared.role.Role.TheVariants.Admin}
+use Rattle.core_tree.specs.volap_cell.proofs.{OneEvent.Known.{AreOlder, older-rows}, OneEvent.Noted.telling-goes-on, OneEvent.Older.{call-kept, query-same}, OneEvent.Quiet.{covering-quiet, desking-quiet, desks-older, imaging-quiet, inserting-quiet, lineage-quiet, placing-quiet, querying-quiet, readers-older, resting-quiet}, OneEvent.Reads.{ReadersTake, pinned-whole, readers-take, reading-rows-older}, OneEvent.Told.{called-kept, commands-older}, OneEvent.Trees.{growing-grown, past-there, queueing-grown}, Persons.{has-command, only-admin}, Reusing.{more-off, more-there, reusing-turned, stands-off}, Views.Admin.by_finish, Views.Fields.{IsNew, IsNewAt, IsPushed, pushed-new}, Views.Seen.renewed}
 use Rattle.core_image.proofs.{Commands.Endings.unasked, Commands.NextAction.next-action, Commands.Owed.{owed-others, promises-now}}
 use Rattle.core_admin.proofs.{Jobs.FinishedCommands.telling-finished, Jobs.NextJobs.{IsNextOf, numbering-next, off-desk, working-next, balancing-one, control-next}, Jobs.TurnedCommands.{IsOffDesk, turned-desking, turned-inserting, turned-placing}, Moving.BalanceDone.{balancing-done, next-is, within, IsDoneBy}, Postponing.Returned.one, Retiring.Gates.{Retiring, gate-old, not-new, retired-stocking}, Retiring.Left.control-retired, Retiring.Trees.{retired-growing, retired-pinning, retired-queueing, retired-stamping}, ShardLines.{KeepsBoxes, KeepsLines, covering-kept, desking-kept, imaging-kept, inserting-kept, querying-kept, rows}, SharedLineage.{LeadsOn, leading-shared, lineage-shared}, SharedRows.{SharesRows, placing-shared, resting-shared, shared_ghost, turning-shared}, Untouched.querying-off}
 use Rattle.row_ledger.specs.declared.class.Class.TheVariants as class_is
 use Rattle.row_ledger.specs.declared.settings.How.TheVariants as how_is
 use Rattle.shard_plan.specs.declared.action.Action.TheVariants as action
-use Rattle.volap_cell.specs.declared.command.Work.TheVariants as work_is
+use Rattle.core_tree.specs.volap_cell.specs.declared.command.Work.TheVariants as work_is
 
 -- what a job's end leaves
 pub record IsFinished (s : Setting) (w w2 : World) (g : Ghost) : Type 0 where

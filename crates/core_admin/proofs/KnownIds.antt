@@ -6,9 +6,9 @@ use Rattle.row_ledger.specs.{Listings.places_of, Right.{EachEvent, Stands}, Shar
 use Rattle.row_ledger.proofs.Descent.{live-made, split-made}
 use Rattle.server_image.specs.Registry.{RegistryValue, on_frontier}
 use Rattle.list_words.proofs.Truth.{on_bool}
-use Rattle.volap_cell.specs.{Ghost.Ghost, Invariant.InvWith, Setting.{Setting, site_in}, View.View}
+use Rattle.core_tree.specs.volap_cell.specs.{Ghost.Ghost, Invariant.InvWith, Setting.{Setting, site_in}, View.View}
 use Rattle.core_image.proofs.Images.Hosts.{stands-live}
-use Rattle.volap_cell.proofs.Histories.Departures.{left-moves, moves-made}
+use Rattle.core_tree.specs.volap_cell.proofs.Histories.Departures.{left-moves, moves-made}
 
 module _ (s : Setting) (v : View) (g : Ghost) (i : InvWith s v g) where
   each : EachEvent (Stands (site_in s) g.placed) v.history

@@ -4,7 +4,7 @@ use Rattle.std.specs.{List.list_any, Option.option_map_or, Prelude.{if◌then◌
 use Rattle.row_ledger.specs.{Shards.{is_live, frontier}, Workers.is_on, declared.event.Event.Event, declared.event.Event.TheVariants.{Moved, Split}}
 use Rattle.shard_plan.specs.{Balancing.{after_move, emptiest, even_gap, gap, plan, plan_of_split, split_rows, to_look_at, to_move}, declared.action.Action.Action, declared.action.Load.Load}
 use Rattle.list_words.proofs.Truth.{on_bool}
-use Rattle.volap_cell.specs.{Commands.{after_action, stands_after}, Planning.{has_load, worker_among}, Setting.Setting, Values.JobValue, Working.{IsAhead, IsPlanned, StandsBy, action_of, action_to}, declared.command.Balance.Balance}
+use Rattle.core_tree.specs.volap_cell.specs.{Commands.{after_action, stands_after}, Planning.{has_load, worker_among}, Setting.Setting, Values.JobValue, Working.{IsAhead, IsPlanned, StandsBy, action_of, action_to}, declared.command.Balance.Balance}
 use Rattle.core_image.proofs.Commands.NextAction.{drop-at}
 use Rattle.shard_plan.specs.declared.action.Action.TheVariants as action
 use Rattle.core_admin.proofs.Moving.MovedShards.{on-here, on-other}

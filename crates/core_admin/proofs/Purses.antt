@@ -4,12 +4,12 @@ use Rattle.std.proofs.{Common.{◌≡◌, ◌≢◌, ℕ, ◌+◌, ◌^◌, ◌<
 use Rattle.std.specs.List.{AllByRecursion, IsDistinct}
 use Rattle.cell_stock.specs.{Stock.{IsStock, StockValue, cells_of, stamps_of}, declared.purse.Spare.Spare}
 use Rattle.dc_node.specs.{declared.entry.Entry.Entry, declared.todo.Item.Item}
-use Rattle.shard_store.specs.{declared.gate.Phase.Phase, declared.gate.Phase.TheVariants.Gone}
+use Rattle.core_tree.specs.shard_store.specs.{declared.gate.Phase.Phase, declared.gate.Phase.TheVariants.Gone}
 use Rattle.list_words.specs.Counts.{Among, Each, times}
 use Rattle.list_words.proofs.{Each.{each-among, each-both, each-map, each-append, each-here}, Times.{times-append, same_is}, Truth.{eqb-self, on_bool}}
-use Rattle.tree_shape.specs.{Queries.NoneWaits, Shape.{Node, Shape, nodes}, Steps.{AreApart, AreSpares, IsSpare}}
-use Rattle.volap_cell.specs.{Ghost.{AGate, Ghost, InJob, InPurse, InTree, NotOfStock, Owner, Unused, is_in_job, is_in_purse, is_in_tree, is_unused}, Invariant.InvWith, Owing.one_if, Setting.{Setting, cell_count, first_stock_cell}, Stocking.{IsWhole, LeavesStamp, Stamping, Stocking, all_items, all_spares, cells_at, items_in, items_of_job, items_of_read, spent_of}, Values.{JobValue, StageValue}, View.{View, view}, World.World}
-use Rattle.volap_cell.proofs.{Cells.Blanks.{spare-owner, spent-owner}, Cells.Spares.among-cells, Views.Fields.IsNewAt}
+use Rattle.core_tree.specs.tree_shape.specs.{Queries.NoneWaits, Shape.{Node, Shape, nodes}, Steps.{AreApart, AreSpares, IsSpare}}
+use Rattle.core_tree.specs.volap_cell.specs.{Ghost.{AGate, Ghost, InJob, InPurse, InTree, NotOfStock, Owner, Unused, is_in_job, is_in_purse, is_in_tree, is_unused}, Invariant.InvWith, Owing.one_if, Setting.{Setting, cell_count, first_stock_cell}, Stocking.{IsWhole, LeavesStamp, Stamping, Stocking, all_items, all_spares, cells_at, items_in, items_of_job, items_of_read, spent_of}, Values.{JobValue, StageValue}, View.{View, view}, World.World}
+use Rattle.core_tree.specs.volap_cell.proofs.{Cells.Blanks.{spare-owner, spent-owner}, Cells.Spares.among-cells, Views.Fields.IsNewAt}
 use Rattle.core_admin.proofs.Collecting.FrozenGates.{spares-each}
 
 -- Lists of spares.

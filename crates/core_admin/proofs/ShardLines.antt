@@ -12,10 +12,10 @@ use Rattle.query_router.specs.declared.part.Want.TheVariants as want_is
 use Rattle.row_ledger.specs.{Bounds.{known, listing_of, may, must, published}, Changes.{AcksStay, KnowledgeStays, PullsStay}, Listings.{IsBox, places_of}, Past.{Ack, Query, acked, insert_at, insert_in, last_of, query_at, query_in}, Shards.{comes_from, ids_made, is_live, is_of}, declared.event.Event.Event}
 use Rattle.row_ledger.proofs.{Older.is_path-older, Positions.before-older}
 use Rattle.server_image.specs.Registry.{RegistryValue}
-use Rattle.shard_store.specs.declared.gate.Gate.{Gate}
-use Rattle.tree_shape.specs.{Queries.{IsUnfinished, fits}, Shape.{Shape, nodes}}
-use Rattle.volap_cell.specs.{Desking.{AreLinesApart, AreUnrelated, Desking, IsQueryPart, IsWantOf}, Errands.ReadPart, Ghost.Ghost, Growing.{IsUnder, table_of}, Imaging.{Covering, Fits, HasGrown, Imaging, IsCovered, IsGrowth}, Invariant.InvWith, Placing.{Inserting, IsLead, IsRowPart}, Querying.{HoldsOr, IsCounted, IsEndOfPart, IsInTreeOf, IsWalk, Querying, must_hold}, Setting.{Setting, site_in}, Stocking.cells_at, Values.ReadingValue, View.{View, row_at, view}, World.World}
-use Rattle.volap_cell.proofs.{Desks.Facts.with-parts, Histories.Departures.older-made, OneEvent.Known.{All-inside, known-acked, published-acked}, OneEvent.Older.{Any-weaker, box-older, insert-kept, insert-same, query-same, query-within, rows-same}, OneEvent.Reads.readers-take}
+use Rattle.core_tree.specs.shard_store.specs.declared.gate.Gate.{Gate}
+use Rattle.core_tree.specs.tree_shape.specs.{Queries.{IsUnfinished, fits}, Shape.{Shape, nodes}}
+use Rattle.core_tree.specs.volap_cell.specs.{Desking.{AreLinesApart, AreUnrelated, Desking, IsQueryPart, IsWantOf}, Errands.ReadPart, Ghost.Ghost, Growing.{IsUnder, table_of}, Imaging.{Covering, Fits, HasGrown, Imaging, IsCovered, IsGrowth}, Invariant.InvWith, Placing.{Inserting, IsLead, IsRowPart}, Querying.{HoldsOr, IsCounted, IsEndOfPart, IsInTreeOf, IsWalk, Querying, must_hold}, Setting.{Setting, site_in}, Stocking.cells_at, Values.ReadingValue, View.{View, row_at, view}, World.World}
+use Rattle.core_tree.specs.volap_cell.proofs.{Desks.Facts.with-parts, Histories.Departures.older-made, OneEvent.Known.{All-inside, known-acked, published-acked}, OneEvent.Older.{Any-weaker, box-older, insert-kept, insert-same, query-same, query-within, rows-same}, OneEvent.Reads.readers-take}
 use Rattle.core_image.proofs.{Images.Frontiers.{listed-was, place-there, spot-there}, Images.MadePaths.{listed-made, path-made}}
 
 -- the event that tells of it, and the shards of the rows behind it

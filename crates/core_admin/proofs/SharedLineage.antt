@@ -7,10 +7,10 @@ use Rattle.mapping_table.specs.declared.place.Where.TheVariants as where_is
 use Rattle.query_router.specs.{Desk.is_open, declared.part.Part.Part}
 use Rattle.row_ledger.specs.{Listings.places_of, Right.{EachEvent, Stands}, Shards.{frontier, ids_made, is_child, is_live}, Workers.{is_on, left_at}, declared.event.Event.Event, declared.event.Event.TheVariants.Split}
 use Rattle.row_ledger.proofs.{Ascent.frontier-ascends, Descent.live-made}
-use Rattle.shard_store.specs.declared.gate.Phase.TheVariants.{Frozen, Gone, Open}
+use Rattle.core_tree.specs.shard_store.specs.declared.gate.Phase.TheVariants.{Frozen, Gone, Open}
 use Rattle.list_words.proofs.Truth.{on_bool}
-use Rattle.volap_cell.specs.{Ghost.Ghost, Invariant.InvWith, Lineage.{Leading, Lineage, was_on, went_to}, Setting.{Setting, site_in}, View.View}
-use Rattle.volap_cell.proofs.Histories.Departures.{older-made}
+use Rattle.core_tree.specs.volap_cell.specs.{Ghost.Ghost, Invariant.InvWith, Lineage.{Leading, Lineage, was_on, went_to}, Setting.{Setting, site_in}, View.View}
+use Rattle.core_tree.specs.volap_cell.proofs.Histories.Departures.{older-made}
 use Rattle.core_admin.proofs.{Moving.MovedShards.{left-within, one-host}, Retiring.Gates.{Retiring, gate-old}, SharedRows.SharesRows}
 
 -- an entry of a table is as it was, and none of the worker that had the shard for it

@@ -3,12 +3,12 @@
 use Rattle.std.proofs.{Common.{◌≡◌, ◌≢◌, ℕ, ◌+◌, ◌<◌, ◌≤◌, List, ◌∷◌, Bool, true, false, cond, eqb, Some, IsSome, Contains, refl, sym, ap, ◌∙◌, subst, ◌⊎◌, inl, inr, arith}, lemmas.Bool.{eqb-true, eqb-false}}
 use Rattle.row_ledger.specs.{Past.{Ack, acked, last_of}, Shards.{comes_from, ids_made, is_live}, declared.event.Event.Event}
 use Rattle.row_ledger.proofs.Descent.{comes_from-self, live-made}
-use Rattle.shard_store.specs.{declared.gate.Phase.TheVariants.{Frozen, Gone}, declared.queue.Queue.Queue}
+use Rattle.core_tree.specs.shard_store.specs.{declared.gate.Phase.TheVariants.{Frozen, Gone}, declared.queue.Queue.Queue}
 use Rattle.list_words.specs.Counts.{same, times}
 use Rattle.list_words.proofs.{Times.same_not, Truth.on_bool}
-use Rattle.tree_shape.specs.Shape.{Shape, numbers}
-use Rattle.volap_cell.specs.{Ghost.{Ghost, Owner}, Growing.{IsUnder, Resting}, Invariant.InvWith, Placing.{NobodyAt, Placing}, Setting.{Setting, site_in}, Turning.Turning, View.{View, view}, World.World, declared.role.Role.TheVariants.Admin}
-use Rattle.volap_cell.proofs.{Histories.Standings.live-on, OneEvent.Older.insert-kept}
+use Rattle.core_tree.specs.tree_shape.specs.Shape.{Shape, numbers}
+use Rattle.core_tree.specs.volap_cell.specs.{Ghost.{Ghost, Owner}, Growing.{IsUnder, Resting}, Invariant.InvWith, Placing.{NobodyAt, Placing}, Setting.{Setting, site_in}, Turning.Turning, View.{View, view}, World.World, declared.role.Role.TheVariants.Admin}
+use Rattle.core_tree.specs.volap_cell.proofs.{Histories.Standings.live-on, OneEvent.Older.insert-kept}
 use Rattle.core_admin.proofs.{Retiring.Gates.{Retiring, gate-old}, Retiring.Trees.{retired-resting, retired-turning}, ShardLines.KeepsLines}
 
 -- the ghost afterwards: rows are in the shards of the new gates

@@ -3,11 +3,11 @@ use Rattle.std.proofs.{Common.{◌≡◌, ◌≢◌, ℕ, true, eqb, Option, Som
 use Rattle.cell_stock.specs.declared.purse.Spare.{Spare}
 use Rattle.dc_node.specs.{declared.block.Block.Block, declared.entry.Entry.Entry}
 use Rattle.row_ledger.specs.Past.{Query}
-use Rattle.shard_store.specs.{Gate.root_entry, declared.gate.Gate.Gate}
+use Rattle.core_tree.specs.shard_store.specs.{Gate.root_entry, declared.gate.Gate.Gate}
 use Rattle.list_words.specs.Counts.{Each}
 use Rattle.list_words.proofs.{Each.each-map, Truth.on_bool}
-use Rattle.tree_shape.specs.{Laws.OtherLaw, Queries.fits, Shape.{Node, gate_node, node_of, nodes}, Steps.{AfterOther, AreSpares, IsSpare, LeavesTree}}
-use Rattle.volap_cell.specs.{Errands.ReadPart, Ghost.{Ghost, InTree}, Growing.{Growing, table_of}, Invariant.InvWith, Querying.{IsWalk, Querying, must_hold}, Setting.Setting, Stocking.{IsWhole, NoneExpects, cells_at}, Values.ReadingValue, View.View}
+use Rattle.core_tree.specs.tree_shape.specs.{Laws.OtherLaw, Queries.fits, Shape.{Node, gate_node, node_of, nodes}, Steps.{AfterOther, AreSpares, IsSpare, LeavesTree}}
+use Rattle.core_tree.specs.volap_cell.specs.{Errands.ReadPart, Ghost.{Ghost, InTree}, Growing.{Growing, table_of}, Invariant.InvWith, Querying.{IsWalk, Querying, must_hold}, Setting.Setting, Stocking.{IsWhole, NoneExpects, cells_at}, Values.ReadingValue, View.View}
 use Rattle.core_tree.proofs.Stocks.Spares.{spares-distinct, spares-each, spares-from}
 
 module _ (s : Setting) (v : View) (g : Ghost) (other : OtherLaw) (i : InvWith s v g) (blocks_now : ℕ → Block) (trees_now : ℕ → Gate) (off : (y c : ℕ) → IsWhole v.gates v.phases v.pins c → g.owner y ≡ InTree c → blocks_now y ≡ v.blocks y) (trees_off : (c : ℕ) → IsWhole v.gates v.phases v.pins c → trees_now c ≡ v.trees c) where

@@ -3,11 +3,11 @@ use Rattle.std.specs.Prelude.{ℕ, ◌≡◌, ◌+◌, ◌^◌, ◌<◌, ◌≤�
 use Rattle.cell_stock.specs.{Stock.PurseValue, declared.purse.Spare.Spare}
 use Rattle.describing_set.specs.{Plane.{IsHierarchyPlane, goes_left}, declared.plane.Plane.Plane}
 use Rattle.dim_hierarchy.specs.{Dimension.Dimension, Rows.IsRowOf, declared.row.Row.Row}
-use Rattle.link_descent.specs.declared.entered.Fresh.{Fresh}
-use Rattle.shard_build.specs.{Built.IsBuilt, declared.builder.Built.Built}
+use Rattle.core_tree.specs.link_descent.specs.declared.entered.Fresh.{Fresh}
+use Rattle.core_tree.specs.shard_build.specs.{Built.IsBuilt, declared.builder.Built.Built}
 use Rattle.shard_plan.specs.Building.{cells_for}
-use Rattle.shard_store.specs.declared.gate.Phase.TheVariants as phase
-use Rattle.volap_cell.specs.{AdminKinds.{HasJob, IsBuiltOf, left_of, right_of}, Cells.{CellValue, phase_of}, Values.{ActorValue, BuildingValue, CollectingValue, JobValue, Builds, Collects}, declared.job.Unbuilt.Unbuilt}
+use Rattle.core_tree.specs.shard_store.specs.declared.gate.Phase.TheVariants as phase
+use Rattle.core_tree.specs.volap_cell.specs.{AdminKinds.{HasJob, IsBuiltOf, left_of, right_of}, Cells.{CellValue, phase_of}, Values.{ActorValue, BuildingValue, CollectingValue, JobValue, Builds, Collects}, declared.job.Unbuilt.Unbuilt}
 
 -- nothing is noted for the actor's job any more, and the queue as it was when the shard was frozen is collected
 pub record CanBuildTrees (gate_at : ℕ) (gate : CellValue) (a : ActorValue) : Type 0 where

@@ -2,11 +2,11 @@
 use Rattle.std.specs.Prelude.{ℕ, ◌≡◌, ◌≢◌, ◌+◌, ◌<◌, List, [], ◌∷◌, ◌++◌, Some, length, slice_get}
 use Rattle.dc_node.specs.{Block.rows_in, declared.block.Block.Block, declared.todo.Item.Item}
 use Rattle.dim_hierarchy.specs.declared.row.Row.{Row}
-use Rattle.link_descent.specs.Visit.{noted_right}
-use Rattle.shard_store.specs.declared.gate.Gate.{Gate}
-use Rattle.shard_store.specs.declared.gate.Phase.TheVariants as phase
-use Rattle.tree_shape.specs.Collecting.{entry_items}
-use Rattle.volap_cell.specs.{AdminKinds.HasJob, Cells.{CellValue, phase_of}, Values.{ActorValue, CollectingValue, JobValue, Collects}}
+use Rattle.core_tree.specs.link_descent.specs.Visit.{noted_right}
+use Rattle.core_tree.specs.shard_store.specs.declared.gate.Gate.{Gate}
+use Rattle.core_tree.specs.shard_store.specs.declared.gate.Phase.TheVariants as phase
+use Rattle.core_tree.specs.tree_shape.specs.Collecting.{entry_items}
+use Rattle.core_tree.specs.volap_cell.specs.{AdminKinds.HasJob, Cells.{CellValue, phase_of}, Values.{ActorValue, CollectingValue, JobValue, Collects}}
 
 -- Blocks.
 

@@ -4,17 +4,17 @@ use Rattle.std.specs.{Ordering.nat_cmp, Prelude.{ℕ, ◌≡◌, ◌≢◌, ◌+
 use Rattle.std.specs.FinMap as map
 use Rattle.dim_hierarchy.specs.{Dimension.Dimension, Rows.IsRowOf, declared.row.Row.Row}
 use Rattle.cell_stock.specs.{Stock.{AreOut, Gives, PurseValue, StockValue}, declared.purse.Spare.Spare}
-use Rattle.link_descent.specs.declared.entered.Fresh.{Fresh}
+use Rattle.core_tree.specs.link_descent.specs.declared.entered.Fresh.{Fresh}
 use Rattle.mapping_table.specs.declared.place.Where.{Where}
 use Rattle.mapping_table.specs.declared.place.Where.TheVariants as where_is
 use Rattle.row_ledger.specs.{LedgerValue.LedgerValue, declared.event.Event.Event}
 use Rattle.row_ledger.specs.declared.event.Event.TheVariants as event
 use Rattle.row_ledger.specs.declared.settings.How.TheVariants as how
 use Rattle.server_image.specs.Registry.{RegistryValue, IsRehosted, on_frontier}
-use Rattle.shard_store.specs.{Gate.IsQueueOf, declared.gate.Gate.Gate}
-use Rattle.volap_cell.specs.{AdminKinds.{HasFrozen, HasJob, IsGateFor, IsUpTo, Retires}, Cells.{CellValue, BlockCell, MapOf, TheLedger, TheRegistry, TheStock, tag_of}, Commands.stands_after, ImageKinds.doing, Planning.{HasLoadNext, next_job}, Values.{ActorValue, JobValue, BuildingValue, Builds}, declared.command.Balance.Balance, declared.command.Command.Command, declared.command.Work.Work, declared.job.Building.Building, declared.job.Job.Job, declared.job.Unbuilt.Unbuilt}
-use Rattle.volap_cell.specs.declared.command.Work.TheVariants as work_is
-use Rattle.volap_cell.specs.declared.job.Stage.TheVariants as stage_is
+use Rattle.core_tree.specs.shard_store.specs.{Gate.IsQueueOf, declared.gate.Gate.Gate}
+use Rattle.core_tree.specs.volap_cell.specs.{AdminKinds.{HasFrozen, HasJob, IsGateFor, IsUpTo, Retires}, Cells.{CellValue, BlockCell, MapOf, TheLedger, TheRegistry, TheStock, tag_of}, Commands.stands_after, ImageKinds.doing, Planning.{HasLoadNext, next_job}, Values.{ActorValue, JobValue, BuildingValue, Builds}, declared.command.Balance.Balance, declared.command.Command.Command, declared.command.Work.Work, declared.job.Building.Building, declared.job.Job.Job, declared.job.Unbuilt.Unbuilt}
+use Rattle.core_tree.specs.volap_cell.specs.declared.command.Work.TheVariants as work_is
+use Rattle.core_tree.specs.volap_cell.specs.declared.job.Stage.TheVariants as stage_is
 use Rattle.core_image.specs.NotesDue.{GoesOn, MayGoOn}
 
 -- Building.

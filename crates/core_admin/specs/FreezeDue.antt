@@ -6,10 +6,10 @@ use Rattle.describing_set.specs.{Sets.{IsDescSetOf, JoinsTo}, declared.plane.Pla
 use Rattle.cell_stock.specs.Stock.{PurseValue, StockValue, Takes}
 use Rattle.mapping_table.specs.declared.place.Where.TheVariants as where_is
 use Rattle.row_ledger.specs.{declared.settings.Decline.Decline, declared.settings.Decline.TheVariants.{OnePlace, NoCell}}
-use Rattle.shard_store.specs.declared.gate.Gate.{Gate}
-use Rattle.shard_store.specs.declared.gate.Phase.TheVariants as phase
-use Rattle.tree_shape.specs.Collecting.{root_item}
-use Rattle.volap_cell.specs.{AdminKinds.{HasJob, HasOnePlace, IsDivided, cells_needed, rows_at}, Cells.{CellValue, TheStock, active_in, tag_of}, TreeKinds.Leads, Values.{ActorValue, JobValue, IsCalled, IsDeclined, IsFrozen, Collects}, World.held, declared.job.Frozen.Frozen}
+use Rattle.core_tree.specs.shard_store.specs.declared.gate.Gate.{Gate}
+use Rattle.core_tree.specs.shard_store.specs.declared.gate.Phase.TheVariants as phase
+use Rattle.core_tree.specs.tree_shape.specs.Collecting.{root_item}
+use Rattle.core_tree.specs.volap_cell.specs.{AdminKinds.{HasJob, HasOnePlace, IsDivided, cells_needed, rows_at}, Cells.{CellValue, TheStock, active_in, tag_of}, TreeKinds.Leads, Values.{ActorValue, JobValue, IsCalled, IsDeclined, IsFrozen, Collects}, World.held, declared.job.Frozen.Frozen}
 
 -- Freezing.
 

@@ -4,8 +4,8 @@ use Rattle.std.specs.Prelude.{ℕ, ◌≡◌, ◌+◌, ◌^◌, ◌<◌, ◌==�
 use Rattle.balancer.specs.Turn.{rows_of_all}
 use Rattle.mapping_table.specs.declared.place.Where.TheVariants as where_is
 use Rattle.shard_plan.specs.{Balancing.plan, declared.action.Action.Action, declared.action.Load.Load}
-use Rattle.volap_cell.specs.{Cells.{CellValue, MapOf, tag_of, where_in}, ImageKinds.doing, Planning.next_job, Values.{ActorValue, JobValue}, declared.command.Balance.Balance, declared.command.Command.Command}
-use Rattle.volap_cell.specs.declared.command.Work.TheVariants as work_is
+use Rattle.core_tree.specs.volap_cell.specs.{Cells.{CellValue, MapOf, tag_of, where_in}, ImageKinds.doing, Planning.next_job, Values.{ActorValue, JobValue}, declared.command.Balance.Balance, declared.command.Command.Command}
+use Rattle.core_tree.specs.volap_cell.specs.declared.command.Work.TheVariants as work_is
 
 -- the actor is at a balance that has a load to read, and its worker's table leads to the gate that is held; so many workers there are
 pub record CanReadLoad (workers : ℕ) (map : CellValue) (gate_at : ℕ) (a : ActorValue) : Type 0 where

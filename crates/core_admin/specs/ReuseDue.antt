@@ -1,7 +1,7 @@
 -- What the steps ask that use a cell again of a gate that is gone, beyond that their cells and their actor are those of a state.
 use Rattle.std.specs.Prelude.{ℕ, ◌≡◌, List, [], ◌∷◌, ◌++◌, Some, None}
-use Rattle.shard_store.specs.declared.gate.Phase.TheVariants as phase
-use Rattle.volap_cell.specs.{Cells.{CellValue, TheStock, gone_in, phase_of, pins_in, tag_of}, Values.ActorValue, declared.role.Role.TheVariants.Admin}
+use Rattle.core_tree.specs.shard_store.specs.declared.gate.Phase.TheVariants as phase
+use Rattle.core_tree.specs.volap_cell.specs.{Cells.{CellValue, TheStock, gone_in, phase_of, pins_in, tag_of}, Values.ActorValue, declared.role.Role.TheVariants.Admin}
 
 -- the administrator is between two commands, the gate is gone, and no query is pinned to it; the other cell is the stock's
 pub record CanReuse (gate stock : CellValue) (a : ActorValue) : Type 0 where

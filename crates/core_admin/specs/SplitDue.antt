@@ -9,8 +9,8 @@ use Rattle.mapping_table.specs.declared.place.Where.TheVariants as where_is
 use Rattle.row_ledger.specs.LedgerValue.{LedgerValue}
 use Rattle.row_ledger.specs.declared.event.Event.TheVariants as event
 use Rattle.server_image.specs.Registry.{RegistryValue, IsSplit, on_frontier}
-use Rattle.shard_store.specs.declared.gate.Gate.{Gate}
-use Rattle.volap_cell.specs.{AdminKinds.{HasJob, IsGateFor, IsTrueBox, IsUpTo, Retires}, Cells.{CellValue, MapOf, tag_of}, ImageKinds.doing, Values.{ActorValue, JobValue, BuildingValue, Builds}, declared.command.Work.Work, declared.job.BuiltTree.BuiltTree}
+use Rattle.core_tree.specs.shard_store.specs.declared.gate.Gate.{Gate}
+use Rattle.core_tree.specs.volap_cell.specs.{AdminKinds.{HasJob, IsGateFor, IsTrueBox, IsUpTo, Retires}, Cells.{CellValue, MapOf, tag_of}, ImageKinds.doing, Values.{ActorValue, JobValue, BuildingValue, Builds}, declared.command.Work.Work, declared.job.BuiltTree.BuiltTree}
 use Rattle.core_admin.specs.{BuildDue.side_of, FinishDue.{ClosesDone, IsBuiltUp, IsLate, MayCloseDone, NotesDone, gone_by, plans}}
 
 -- The job has built two trees. The last two spares are for the gates of the children, the left one's first; the table is that

@@ -2,24 +2,24 @@
 ghost use Rattle.std.specs.Prelude.{◌≡◌, ◌≢◌, ◌≤◌, [], ◌∷◌, ◌++◌, is_some, option_map};
 ghost use Rattle.core_admin.specs.FinishDue.{BuildsLast, BuildsNext, CanBuildBlock, CanPostpone, Closes, GivesAll, GivesSpent, IsUnbuilt, MayClose, MayGiveAll, NotesGivenUp, gone_by, plans as is_planned};
 ghost use Rattle.cell_stock.specs.Stock.{AreOut};
-ghost use Rattle.volap_cell.specs.AdminKinds.{spent_in};
-ghost use Rattle.volap_cell.specs.Cells.{BlockCell, cell_of};
-ghost use Rattle.volap_cell.specs.Steps.{IsHere, Makes};
-ghost use Rattle.volap_cell.specs.Values.{actor_of, job_of, stage_of};
-ghost use Rattle.volap_cell.specs.World.{change, held};
-ghost use Rattle.volap_cell.specs.declared.kind.Kind.TheVariants.{BuildBlock, Postpone};
+ghost use Rattle.core_tree.specs.volap_cell.specs.AdminKinds.{spent_in};
+ghost use Rattle.core_tree.specs.volap_cell.specs.Cells.{BlockCell, cell_of};
+ghost use Rattle.core_tree.specs.volap_cell.specs.Steps.{IsHere, Makes};
+ghost use Rattle.core_tree.specs.volap_cell.specs.Values.{actor_of, job_of, stage_of};
+ghost use Rattle.core_tree.specs.volap_cell.specs.World.{change, held};
+ghost use Rattle.core_tree.specs.volap_cell.specs.declared.kind.Kind.TheVariants.{BuildBlock, Postpone};
 
 use cell_stock::{Purse, Stock, laws};
 use core_image::advance;
+use core_tree::tree_shape::{collect_laws, frame_law};
+use core_tree::volap_cell::{
+    Actor, Building, Cell, Command, Job, Stage, Unbuilt, Work, ledger_in, lent, stock_in, there,
+};
 use dc_node::Block;
 use dim_hierarchy::{Hierarchy, Items};
 use row_ledger::{Event, How, Ledger};
 use std::alloc::Global;
 use std::mem;
-use tree_shape::{collect_laws, frame_law};
-use volap_cell::{
-    Actor, Building, Cell, Command, Job, Stage, Unbuilt, Work, ledger_in, lent, stock_in, there,
-};
 
 /// Puts the last block of the actor's job that is not in its cell yet there. What the cell had goes. Takes no
 /// memory; the allocator is that of the list of blocks.

@@ -3,22 +3,22 @@ ghost use Rattle.std.specs.Prelude.{◌≡◌, ◌≢◌, ◌+◌, ◌<◌, ◌�
 ghost use Rattle.core_admin.specs.CollectDue.{CanCollectBlock, CanCollectRow, CollectsRow, HasMore, HasNoted, ReadsBlock, ReadsInto, TakesRow};
 ghost use Rattle.dc_node.specs.Block.{rows_in};
 ghost use Rattle.dc_node.specs.Limits.{most_of_leaf};
-ghost use Rattle.link_descent.specs.Visit.{noted_right};
-ghost use Rattle.tree_shape.specs.Collecting.{entry_items};
-ghost use Rattle.volap_cell.specs.Cells.{cell_of};
-ghost use Rattle.volap_cell.specs.Steps.{IsHere, Makes};
-ghost use Rattle.volap_cell.specs.Values.{actor_of, collecting_of, job_of};
-ghost use Rattle.volap_cell.specs.World.{change, held};
-ghost use Rattle.volap_cell.specs.declared.kind.Kind.TheVariants.{Collect};
+ghost use Rattle.core_tree.specs.link_descent.specs.Visit.{noted_right};
+ghost use Rattle.core_tree.specs.tree_shape.specs.Collecting.{entry_items};
+ghost use Rattle.core_tree.specs.volap_cell.specs.Cells.{cell_of};
+ghost use Rattle.core_tree.specs.volap_cell.specs.Steps.{IsHere, Makes};
+ghost use Rattle.core_tree.specs.volap_cell.specs.Values.{actor_of, collecting_of, job_of};
+ghost use Rattle.core_tree.specs.volap_cell.specs.World.{change, held};
+ghost use Rattle.core_tree.specs.volap_cell.specs.declared.kind.Kind.TheVariants.{Collect};
 
+use core_tree::link_descent::MOST_NOTED;
+use core_tree::shard_store::{CellList, Gate, RowList};
+use core_tree::tree_shape::collect_laws;
+use core_tree::volap_cell::{Actor, Cell, Collecting, Job, Stage, block_seen, gate_seen, lent};
 use dc_node::{Block, Body, Entry, Item, LeafRows, Todo};
 use dim_hierarchy::{COLUMN_PLACES, Coord, Hierarchy, Row};
-use link_descent::MOST_NOTED;
-use shard_store::{CellList, Gate, RowList};
 use std::alloc::AllocError;
 use std::mem;
-use tree_shape::collect_laws;
-use volap_cell::{Actor, Cell, Collecting, Job, Stage, block_seen, gate_seen, lent};
 
 /// Reads the block that the actor's job noted last: collects its rows, and notes all its entries and its
 /// right link. The room for these is made first; where memory is wanting for it, nothing changes.

@@ -4,31 +4,31 @@ ghost use Rattle.std.specs.FinMap as map;
 ghost use Rattle.core_admin.specs.FinishDue.{CanFinishHere, CanFinishMove, CanQueue, ClosesDone, CountsDone, FinishesFor, GivesRest, IsLate, IsNextGate, MakesWay, MakesWayHere, MayCloseDone, MayCount, MayFinish, MayGiveRest, MayMakeWay, MovesTo, NotesDone, QueuesAll, RetiresFor, with_one_done, gone_by};
 ghost use Rattle.mapping_table.specs.declared.place.Where.TheVariants as where_is;
 ghost use Rattle.shard_plan.specs.Balancing.{after_move};
-ghost use Rattle.shard_store.specs.Gate.{IsFrozen, IsQueueOf};
-ghost use Rattle.volap_cell.specs.AdminKinds.{IsGateFor, IsUpTo, Retires};
-ghost use Rattle.volap_cell.specs.Cells.{GateCell, cell_of};
-ghost use Rattle.volap_cell.specs.Steps.{IsHere, Makes};
-ghost use Rattle.volap_cell.specs.Values.{actor_of, job_of};
-ghost use Rattle.volap_cell.specs.World.{change, held};
-ghost use Rattle.volap_cell.specs.declared.kind.Kind.TheVariants.{FinishMove};
+ghost use Rattle.core_tree.specs.shard_store.specs.Gate.{IsFrozen, IsQueueOf};
+ghost use Rattle.core_tree.specs.volap_cell.specs.AdminKinds.{IsGateFor, IsUpTo, Retires};
+ghost use Rattle.core_tree.specs.volap_cell.specs.Cells.{GateCell, cell_of};
+ghost use Rattle.core_tree.specs.volap_cell.specs.Steps.{IsHere, Makes};
+ghost use Rattle.core_tree.specs.volap_cell.specs.Values.{actor_of, job_of};
+ghost use Rattle.core_tree.specs.volap_cell.specs.World.{change, held};
+ghost use Rattle.core_tree.specs.volap_cell.specs.declared.kind.Kind.TheVariants.{FinishMove};
 
 use crate::builds::plans;
 use balancer::move_shard;
 use cell_stock::{Purse, Stock};
 use core_image::advance;
+use core_tree::shard_store::{CellList, Gate, Phase};
+use core_tree::tree_shape::{collect_laws, frame_law};
+use core_tree::volap_cell::{
+    Actor, Balance, BuiltTree, Cell, Command, Job, Stage, Work, gate_in, ledger_in, lent, map_in,
+    registry_in, stock_in, there,
+};
 use dim_hierarchy::{Hierarchy, Items, Row};
 use mapping_table::{MapTable, Where};
 use row_ledger::{Event, How, Ledger};
 use server_image::Registry;
 use shard_plan::Load;
-use shard_store::{CellList, Gate, Phase};
 use std::alloc::{AllocError, Global};
 use std::mem;
-use tree_shape::{collect_laws, frame_law};
-use volap_cell::{
-    Actor, Balance, BuiltTree, Cell, Command, Job, Stage, Work, gate_in, ledger_in, lent, map_in,
-    registry_in, stock_in, there,
-};
 
 /// Ends the move of the actor's shard to another worker: the new tree has a gate of its own there, with the rows
 /// that came to the queue after the shard was frozen, and the old gate is gone. A balance goes on to its next

@@ -1,26 +1,26 @@
 //! A shard is frozen for a job, and its tree runs empty of inserts.
 ghost use Rattle.std.specs.Prelude.{◌≡◌, ◌^◌, ◌<◌, ◌≤◌, [], ◌∷◌, length, None, OnOk, OnErr, IfSome};
 ghost use Rattle.core_admin.specs.FreezeDue.{BeginsCollecting, CanDrain, CanFreeze, FreezesFor, FreezesOr, IsFreezable, IsFrozenJob, TakesFor};
-ghost use Rattle.volap_cell.specs.AdminKinds.{HasOnePlace, IsDivided, cells_needed};
-ghost use Rattle.volap_cell.specs.Cells.{cell_of};
-ghost use Rattle.volap_cell.specs.Steps.{IsHere, Makes};
-ghost use Rattle.volap_cell.specs.Values.{IsDeclined, actor_of, job_of};
-ghost use Rattle.volap_cell.specs.World.{change, held};
-ghost use Rattle.volap_cell.specs.declared.kind.Kind.TheVariants.{Drained, Freeze};
+ghost use Rattle.core_tree.specs.volap_cell.specs.AdminKinds.{HasOnePlace, IsDivided, cells_needed};
+ghost use Rattle.core_tree.specs.volap_cell.specs.Cells.{cell_of};
+ghost use Rattle.core_tree.specs.volap_cell.specs.Steps.{IsHere, Makes};
+ghost use Rattle.core_tree.specs.volap_cell.specs.Values.{IsDeclined, actor_of, job_of};
+ghost use Rattle.core_tree.specs.volap_cell.specs.World.{change, held};
+ghost use Rattle.core_tree.specs.volap_cell.specs.declared.kind.Kind.TheVariants.{Drained, Freeze};
 
 use cell_stock::{Purse, Stock};
+use core_tree::shard_store::{CellList, Gate, RowList};
+use core_tree::tree_shape::{collect_laws, tree_laws};
+use core_tree::volap_cell::{
+    Actor, Cell, Collecting, Frozen, Job, NoteRoom, Stage, gate_in, gate_seen, lent, stock_in,
+};
 use dc_node::Item;
 use describing_set::{DescSet, Plane, plane_of};
 use dim_hierarchy::Hierarchy;
 use row_ledger::Decline;
 use shard_plan::{cells_for, split_need};
-use shard_store::{CellList, Gate, RowList};
 use std::alloc::{AllocError, Global};
 use std::mem;
-use tree_shape::{collect_laws, tree_laws};
-use volap_cell::{
-    Actor, Cell, Collecting, Frozen, Job, NoteRoom, Stage, gate_in, gate_seen, lent, stock_in,
-};
 
 /// So many stamps there are.
 const STAMPS: u64 = 1 << 63;

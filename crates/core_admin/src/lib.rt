@@ -19,3 +19,7 @@ pub use loads::read_load;
 pub use reuses::{reuse_block, reuse_gate};
 pub use splits::finish_split;
 pub use trees::build_trees;
+
+// What stands below is passed on.
+pub use core_image;
+pub use core_tree;

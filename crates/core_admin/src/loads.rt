@@ -4,22 +4,24 @@ ghost use Rattle.balancer.specs.Turn.{rows_of_all};
 ghost use Rattle.core_admin.specs.LoadDue.{CanNote, CanRead, CanReadLoad, NotesLoad, ReadsIn};
 ghost use Rattle.shard_plan.specs.Balancing.{plan};
 ghost use Rattle.shard_plan.specs.declared.action.Load.{Load};
-ghost use Rattle.volap_cell.specs.AdminKinds.{rows_at};
-ghost use Rattle.volap_cell.specs.Cells.{cell_of};
-ghost use Rattle.volap_cell.specs.Planning.{HasLoadNext, next_job};
-ghost use Rattle.volap_cell.specs.Steps.{IsHere, Makes};
-ghost use Rattle.volap_cell.specs.Values.{actor_of, job_of};
-ghost use Rattle.volap_cell.specs.World.{change, held};
-ghost use Rattle.volap_cell.specs.declared.kind.Kind.TheVariants.{LookUp};
+ghost use Rattle.core_tree.specs.volap_cell.specs.AdminKinds.{rows_at};
+ghost use Rattle.core_tree.specs.volap_cell.specs.Cells.{cell_of};
+ghost use Rattle.core_tree.specs.volap_cell.specs.Planning.{HasLoadNext, next_job};
+ghost use Rattle.core_tree.specs.volap_cell.specs.Steps.{IsHere, Makes};
+ghost use Rattle.core_tree.specs.volap_cell.specs.Values.{actor_of, job_of};
+ghost use Rattle.core_tree.specs.volap_cell.specs.World.{change, held};
+ghost use Rattle.core_tree.specs.volap_cell.specs.declared.kind.Kind.TheVariants.{LookUp};
 
 use balancer::plan_into;
+use core_tree::shard_store::Gate;
+use core_tree::tree_shape::tree_laws;
+use core_tree::volap_cell::{
+    ActionPlan, Actor, Balance, Cell, Command, Job, Work, gate_seen, lent,
+};
 use dim_hierarchy::{Hierarchy, Items};
 use shard_plan::{Action, Load};
-use shard_store::Gate;
 use std::alloc::Global;
 use std::mem;
-use tree_shape::tree_laws;
-use volap_cell::{ActionPlan, Actor, Balance, Cell, Command, Job, Work, gate_seen, lent};
 
 /// Reads the next load of the actor's balance: the rows of tree and queue of the gate, to which the table of
 /// the load's worker leads. After the last load the actions are planned, for so many workers, and the job of

@@ -1,18 +1,18 @@
 //! The cells of a gate that is gone are free again, one at a step.
 ghost use Rattle.std.specs.Prelude.{ℕ, ◌≡◌, ◌≢◌, [], ◌∷◌, ◌++◌, List};
 ghost use Rattle.core_admin.specs.ReuseDue.{CanReuseBlock, CanReuseGate};
-ghost use Rattle.volap_cell.specs.Cells.{FreeCell, cell_of};
-ghost use Rattle.volap_cell.specs.Steps.{IsHere, Makes};
-ghost use Rattle.volap_cell.specs.Values.{actor_of};
-ghost use Rattle.volap_cell.specs.World.{change, held};
-ghost use Rattle.volap_cell.specs.declared.kind.Kind.TheVariants.{Reuse};
+ghost use Rattle.core_tree.specs.volap_cell.specs.Cells.{FreeCell, cell_of};
+ghost use Rattle.core_tree.specs.volap_cell.specs.Steps.{IsHere, Makes};
+ghost use Rattle.core_tree.specs.volap_cell.specs.Values.{actor_of};
+ghost use Rattle.core_tree.specs.volap_cell.specs.World.{change, held};
+ghost use Rattle.core_tree.specs.volap_cell.specs.declared.kind.Kind.TheVariants.{Reuse};
 
+use core_tree::shard_store::{CellList, Gate};
+use core_tree::tree_shape::frame_law;
+use core_tree::volap_cell::{Actor, Cell, gate_in, stock_in};
 use dim_hierarchy::Hierarchy;
-use shard_store::{CellList, Gate};
 use std::alloc::Global;
 use std::mem;
-use tree_shape::frame_law;
-use volap_cell::{Actor, Cell, gate_in, stock_in};
 
 /// Uses the cell again of the block that stands last in the list of a gate that is gone, and to which no query is
 /// pinned: it is the stock's. Takes no memory; the allocator is that of the list.

@@ -4,30 +4,30 @@ ghost use Rattle.std.specs.FinMap as map;
 ghost use Rattle.core_admin.specs.SplitDue.{CanFinishSplit, DividesShard, EntersBoth, FinishesDivided, GivesMost, IsChildGate, LeadNowhere, MayDivideShard, MayEnterBoth, MayFinishSplit, MayGiveMost, MayMakeChild, with_children};
 ghost use Rattle.describing_set.specs.Sets.{IsDescSetOf};
 ghost use Rattle.mapping_table.specs.declared.place.Where.TheVariants as where_is;
-ghost use Rattle.shard_store.specs.Gate.{IsQueueOf};
-ghost use Rattle.volap_cell.specs.AdminKinds.{IsTrueBox};
-ghost use Rattle.volap_cell.specs.Cells.{cell_of};
-ghost use Rattle.volap_cell.specs.Steps.{IsHere, Makes};
-ghost use Rattle.volap_cell.specs.Values.{actor_of, job_of};
-ghost use Rattle.volap_cell.specs.World.{change, held};
-ghost use Rattle.volap_cell.specs.declared.kind.Kind.TheVariants.{FinishSplit};
+ghost use Rattle.core_tree.specs.shard_store.specs.Gate.{IsQueueOf};
+ghost use Rattle.core_tree.specs.volap_cell.specs.AdminKinds.{IsTrueBox};
+ghost use Rattle.core_tree.specs.volap_cell.specs.Cells.{cell_of};
+ghost use Rattle.core_tree.specs.volap_cell.specs.Steps.{IsHere, Makes};
+ghost use Rattle.core_tree.specs.volap_cell.specs.Values.{actor_of, job_of};
+ghost use Rattle.core_tree.specs.volap_cell.specs.World.{change, held};
+ghost use Rattle.core_tree.specs.volap_cell.specs.declared.kind.Kind.TheVariants.{FinishSplit};
 
 use crate::builds::plans;
 use crate::finishes::{close_done, gate_for, late_rows, note_done, put_gate, retire_for};
 use crate::trees::rows_on;
 use cell_stock::{Purse, Stock};
+use core_tree::shard_store::Gate;
+use core_tree::tree_shape::{collect_laws, frame_law, tree_laws};
+use core_tree::volap_cell::{
+    Actor, BuiltTree, Cell, Job, Stage, gate_in, ledger_in, lent, map_in, registry_in, stock_in,
+    there,
+};
 use describing_set::{DescSet, Plane};
 use dim_hierarchy::Hierarchy;
 use mapping_table::{MapTable, Where};
 use row_ledger::{Event, Ledger};
 use server_image::Registry;
-use shard_store::Gate;
 use std::alloc::{AllocError, Global};
-use tree_shape::{collect_laws, frame_law, tree_laws};
-use volap_cell::{
-    Actor, BuiltTree, Cell, Job, Stage, gate_in, ledger_in, lent, map_in, registry_in, stock_in,
-    there,
-};
 
 /// The highest id with which two ids may begin: the stock's next id behind them is a `u32` too.
 const LAST_PAIR: u32 = u32::MAX - 2;

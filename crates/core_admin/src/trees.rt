@@ -5,29 +5,31 @@ ghost use Rattle.core_admin.specs.BuildDue.{AreBuilt, BuildsTrees, CanBuild, Can
 ghost use Rattle.describing_set.specs.Plane.{IsHierarchyPlane, goes_left};
 ghost use Rattle.dim_hierarchy.specs.Row.{IsCoordOf};
 ghost use Rattle.dim_hierarchy.specs.Rows.{IsRowOf};
-ghost use Rattle.shard_build.specs.Building.{spare_of};
+ghost use Rattle.core_tree.specs.shard_build.specs.Building.{spare_of};
 ghost use Rattle.shard_codec.specs.Spelled.{AreSpelled};
 ghost use Rattle.shard_plan.specs.Building.{cells_for};
-ghost use Rattle.volap_cell.specs.AdminKinds.{spent_by, tree_of};
-ghost use Rattle.volap_cell.specs.Cells.{cell_of};
-ghost use Rattle.volap_cell.specs.Steps.{IsHere, Makes};
-ghost use Rattle.volap_cell.specs.Values.{actor_of, building_of, collecting_of, job_of};
-ghost use Rattle.volap_cell.specs.World.{change, held};
-ghost use Rattle.volap_cell.specs.declared.kind.Kind.TheVariants.{Collect};
+ghost use Rattle.core_tree.specs.volap_cell.specs.AdminKinds.{spent_by, tree_of};
+ghost use Rattle.core_tree.specs.volap_cell.specs.Cells.{cell_of};
+ghost use Rattle.core_tree.specs.volap_cell.specs.Steps.{IsHere, Makes};
+ghost use Rattle.core_tree.specs.volap_cell.specs.Values.{actor_of, building_of, collecting_of, job_of};
+ghost use Rattle.core_tree.specs.volap_cell.specs.World.{change, held};
+ghost use Rattle.core_tree.specs.volap_cell.specs.declared.kind.Kind.TheVariants.{Collect};
 
 use crate::freezes::copy_of;
 use cell_stock::{Purse, Spare};
+use core_tree::link_descent::Fresh;
+use core_tree::shard_build::{Built, build};
+use core_tree::shard_store::CellList;
+use core_tree::tree_shape::collect_laws;
+use core_tree::volap_cell::{
+    Actor, Building, BuiltTree, Cell, Collecting, Job, Stage, Unbuilt, lent,
+};
 use dc_node::Block;
 use describing_set::{Plane, goes_left};
 use dim_hierarchy::{ConceptId, Coord, Hierarchy, Items, Measures, Row};
-use link_descent::Fresh;
-use shard_build::{Built, build};
 use shard_codec::{CodecFault, decode, encode, text_laws};
 use shard_plan::{cells_for, parts_fit};
-use shard_store::CellList;
 use std::alloc::{AllocError, Global};
-use tree_shape::collect_laws;
-use volap_cell::{Actor, Building, BuiltTree, Cell, Collecting, Job, Stage, Unbuilt, lent};
 
 /// With all rows collected, makes the new trees of them, with cells of the purse: one for each side of the
 /// plane, or for a move one of all rows, which pass through the transfer text. The memory that the trees

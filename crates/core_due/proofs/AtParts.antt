@@ -4,16 +4,16 @@ use Rattle.std.proofs.{Common.{◌≡◌, ◌∙◌, ℕ, ◌<◌, Bool, true, f
 use Rattle.std.specs.Prelude.{◌==◌, ◌&&◌, ◌||◌}
 use Rattle.core_due.specs.Due.{led_to}
 use Rattle.core_due.proofs.GatesLed.{led-stands}
-use Rattle.core_tree.proofs.Queries.Walkers.{walker}
+use Rattle.core_steps.specs.core_tree.proofs.Queries.Walkers.{walker}
 use Rattle.dc_node.specs.declared.todo.Item.{Item}
 use Rattle.list_words.proofs.Each.{each-right}
 use Rattle.mapping_table.specs.declared.place.Where.TheVariants as where_is
 use Rattle.query_router.specs.{Desk.{is_open, is_taken, is_waiting}, declared.part.Part.Part}
-use Rattle.tree_shape.proofs.Whole.Totals.{links-on}
-use Rattle.tree_shape.specs.Queries.{fits}
-use Rattle.volap_cell.proofs.{Actors.row-at, Histories.Standings.live-on, Persons.has-taken}
-use Rattle.volap_cell.specs.{Cells.{gate_shard}, Errands.{InLeaf, ReadPart, RowWay, has_passed, place_of, read_in_task, read_of, row_way, taken_by, taken_of}, Ghost.{Ghost, InTree}, Growing.table_of, Invariant.InvWith, Querying.must_hold, Setting.{Setting, actor_count}, ShardKinds.pin_of, Stocking.cells_at, TreeKinds.HasRow, Values.{ErrandValue, JobValue, OfRow, Read, ReadingValue, TaskValue, Unread}, View.{View, view}, World.World, declared.errand.RowErrand.RowErrand}
-use Rattle.volap_cell.specs.declared.errand.Way.TheVariants as way
+use Rattle.core_steps.specs.tree_shape.proofs.Whole.Totals.{links-on}
+use Rattle.core_steps.specs.tree_shape.specs.Queries.{fits}
+use Rattle.core_steps.specs.volap_cell.proofs.{Actors.row-at, Histories.Standings.live-on, Persons.has-taken}
+use Rattle.core_steps.specs.volap_cell.specs.{Cells.{gate_shard}, Errands.{InLeaf, ReadPart, RowWay, has_passed, place_of, read_in_task, read_of, row_way, taken_by, taken_of}, Ghost.{Ghost, InTree}, Growing.table_of, Invariant.InvWith, Querying.must_hold, Setting.{Setting, actor_count}, ShardKinds.pin_of, Stocking.cells_at, TreeKinds.HasRow, Values.{ErrandValue, JobValue, OfRow, Read, ReadingValue, TaskValue, Unread}, View.{View, view}, World.World, declared.errand.RowErrand.RowErrand}
+use Rattle.core_steps.specs.volap_cell.specs.declared.errand.Way.TheVariants as way
 
 -- Parts on desks.
 

@@ -5,15 +5,15 @@ use Rattle.cell_stock.specs.declared.purse.Spare.{Spare}
 use Rattle.core_due.specs.{Rows.{first_behind, next_behind, second_behind}, Spares.{last_spare, spare_before}}
 use Rattle.core_due.proofs.LastItems.{ends-in, ends-in-two, first-before, second-last, spare-last}
 use Rattle.core_steps.specs.{Places.number_at, Rows.number_of}
-use Rattle.core_tree.specs.Descent.{AreForNew, two_if}
-use Rattle.core_tree.proofs.{Calls.Lends.lent_as, Stocks.Spares.{AreDistinct, distinct-right}}
+use Rattle.core_steps.specs.core_tree.specs.Descent.{AreForNew, two_if}
+use Rattle.core_steps.specs.core_tree.proofs.{Calls.Lends.lent_as, Stocks.Spares.{AreDistinct, distinct-right}}
 use Rattle.dc_node.specs.{Block.is_full, declared.block.Block.Block, declared.entry.Entry.Entry}
 use Rattle.list_words.specs.Counts.{Each, times}
 use Rattle.list_words.proofs.{Each.{each-append, each-map, each-right}, Times.same_is, Truth.on_bool}
-use Rattle.shard_store.specs.declared.gate.Gate.{Gate}
-use Rattle.tree_shape.specs.{Shape.{Shape, Table, TreeCells, nodes}, Trees.{IsBehind, IsTree, cells_behind}}
-use Rattle.tree_shape.proofs.{Whole.Tails.behind-head, Whole.Totals.{LeadsTo, has-behind}}
-use Rattle.volap_cell.specs.{Cells.{CellValue, block_in}, State.AreDifferent, Stocking.cells_at, TreeKinds.{AreBehind, IsTailIf, IsTailOf, most_behind}, World.{World, held_if}}
+use Rattle.core_steps.specs.shard_store.specs.declared.gate.Gate.{Gate}
+use Rattle.core_steps.specs.tree_shape.specs.{Shape.{Shape, Table, TreeCells, nodes}, Trees.{IsBehind, IsTree, cells_behind}}
+use Rattle.core_steps.specs.tree_shape.proofs.{Whole.Tails.behind-head, Whole.Totals.{LeadsTo, has-behind}}
+use Rattle.core_steps.specs.volap_cell.specs.{Cells.{CellValue, block_in}, State.AreDifferent, Stocking.cells_at, TreeKinds.{AreBehind, IsTailIf, IsTailOf, most_behind}, World.{World, held_if}}
 
 -- Numbers.
 

@@ -7,7 +7,7 @@ use Rattle.core_steps.specs.declared.books.BookStep.TheVariants as book
 use Rattle.core_steps.specs.declared.notes.NoteStep.TheVariants as note
 use Rattle.core_steps.specs.declared.parts.PartStep.TheVariants as part
 use Rattle.row_ledger.specs.{declared.settings.How.How}
-use Rattle.volap_cell.specs.{Cells.{DeskOf, ImageOf, TheLedger, TheRegistry, tag_of}, Invariant.InvWith, Setting.{Setting, actor_count, ledger_cell, registry_cell}, Steps.Inv, View.view, World.World}
+use Rattle.core_steps.specs.volap_cell.specs.{Cells.{DeskOf, ImageOf, TheLedger, TheRegistry, tag_of}, Invariant.InvWith, Setting.{Setting, actor_count, ledger_cell, registry_cell}, Steps.Inv, View.view, World.World}
 
 module _ (s : Setting) (w : World) (inv : Inv s w) (n : ℕ) where
   abbrev i : InvWith s (view s w) inv.ghost_of

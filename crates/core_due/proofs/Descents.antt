@@ -6,15 +6,15 @@ use Rattle.cell_stock.specs.declared.purse.Spare.{Spare}
 use Rattle.core_due.specs.{Ready.{IsDescending, IsFree, IsLendable, IsRowPrepared}, Rows.{descent_of, down_by, down_for, first_behind, held_for, row_in, row_of, second_behind}, Spares.{last_spare}}
 use Rattle.core_due.proofs.{AtParts.part-there, Heads.{AreBeside, beside, of-each, spare-off}, Behind.{AreSpareCells, IsHeldTail, held-tail, numbers-of-two, one-held, one-spare, tail_numbers, two-held}, Owned.{lend-block, lend-own}, Picks.{HasPick, entries-some, has-pick}, StepsPrepared.carried-own}
 use Rattle.core_steps.specs.{Places.{number_at, numbers}, Rows.row_places}
-use Rattle.core_tree.specs.Descent.{AreForNew}
-use Rattle.core_tree.proofs.{Calls.Lends.{lends-behind}, Rows.Carriers.{Carries, carries, purse-owned}}
+use Rattle.core_steps.specs.core_tree.specs.Descent.{AreForNew}
+use Rattle.core_steps.specs.core_tree.proofs.{Calls.Lends.{lends-behind}, Rows.Carriers.{Carries, carries, purse-owned}}
 use Rattle.dc_node.specs.{Block.{IsBodyOf, entries_in, is_full}, declared.entry.Entry.Entry}
 use Rattle.dim_hierarchy.specs.{Rows.IsRowOf, declared.row.Row.Row}
 use Rattle.list_words.specs.Counts.{Each}
-use Rattle.tree_shape.specs.{Shape.{Shape, Table, TreeCells}, Trees.{IsBehind, IsBelow}}
-use Rattle.tree_shape.proofs.Whole.Totals.{block-fits, entry-leads, leads-down}
-use Rattle.volap_cell.proofs.Actors.{row-at}
-use Rattle.volap_cell.specs.{Cells.{block_in}, Errands.{place_of, row_way}, Ghost.{Ghost, InPurse, InTree}, Growing.table_of, Invariant.InvWith, Setting.Setting, State.AreDifferent, Stocking.cells_at, TreeKinds.{HasRow, IsTailOf}, View.{View, view}, World.World}
+use Rattle.core_steps.specs.tree_shape.specs.{Shape.{Shape, Table, TreeCells}, Trees.{IsBehind, IsBelow}}
+use Rattle.core_steps.specs.tree_shape.proofs.Whole.Totals.{block-fits, entry-leads, leads-down}
+use Rattle.core_steps.specs.volap_cell.proofs.Actors.{row-at}
+use Rattle.core_steps.specs.volap_cell.specs.{Cells.{block_in}, Errands.{place_of, row_way}, Ghost.{Ghost, InPurse, InTree}, Growing.table_of, Invariant.InvWith, Setting.Setting, State.AreDifferent, Stocking.cells_at, TreeKinds.{HasRow, IsTailOf}, View.{View, view}, World.World}
 
 -- The step, and the child to which it leads.
 pub record IsDescent (s : Setting) (w : World) (n block : ℕ) : Type 0 where

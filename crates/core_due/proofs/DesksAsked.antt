@@ -3,7 +3,7 @@ use Rattle.std.proofs.{Common.{ℕ, ◌≡◌, ◌<◌, ◌∙◌, Bool, true, f
 use Rattle.std.specs.{List.{list_any, slice_index_or}, Prelude.{IfSome, IsSome, is_none, position}}
 use Rattle.core_due.specs.{Due.is_empty_desk, Ready.IsStepAsked, Works.{insert_due, query_due, route_due, verdict_due}, WorksReady.IsWorkAsked}
 use Rattle.core_due.specs.declared.works.WorkDue.TheVariants.{Books, Takes}
-use Rattle.core_shard.proofs.FinishReady.{first-place}
+use Rattle.core_steps.specs.core_shard.proofs.FinishReady.{first-place}
 use Rattle.core_steps.specs.declared.parts.PartStep.TheVariants.{TakePart}
 use Rattle.core_steps.specs.declared.books.BookStep.TheVariants as book
 use Rattle.dim_hierarchy.specs.declared.row.Row.{Row}
@@ -12,9 +12,9 @@ use Rattle.query_router.specs.{Desk.{is_open, is_placed, is_refused, is_waiting,
 use Rattle.query_router.specs.declared.part.PartState.TheVariants as state
 use Rattle.query_router.specs.declared.part.Verdict.TheVariants as verdict
 use Rattle.row_ledger.specs.Past.{Insert, Query}
-use Rattle.volap_cell.proofs.Cells.Numbers.{tag-desk, tag-image}
-use Rattle.volap_cell.specs.{Cells.{DeskOf, ImageOf, desk_in, tag_of}, Desking.{IsInsertState, IsQueryState, is_on_desk}, ImageKinds.doing, Invariant.InvWith, Numbering.IsRoleOf, Setting.{Setting, desk_cell, image_cell, ledger_cell}, ShardKinds.{IsDeskFor, may_take}, Steps.{Inv}, Values.{JobValue}, View.view, World.World, declared.command.Command.Command, declared.command.Work.Work, declared.role.Role.Role, declared.role.Role.TheVariants.{Admin, Hand, Puller, Session}}
-use Rattle.volap_cell.specs.declared.command.Work.TheVariants as work_is
+use Rattle.core_steps.specs.volap_cell.proofs.Cells.Numbers.{tag-desk, tag-image}
+use Rattle.core_steps.specs.volap_cell.specs.{Cells.{DeskOf, ImageOf, desk_in, tag_of}, Desking.{IsInsertState, IsQueryState, is_on_desk}, ImageKinds.doing, Invariant.InvWith, Numbering.IsRoleOf, Setting.{Setting, desk_cell, image_cell, ledger_cell}, ShardKinds.{IsDeskFor, may_take}, Steps.{Inv}, Values.{JobValue}, View.view, World.World, declared.command.Command.Command, declared.command.Work.Work, declared.role.Role.Role, declared.role.Role.TheVariants.{Admin, Hand, Puller, Session}}
+use Rattle.core_steps.specs.volap_cell.specs.declared.command.Work.TheVariants as work_is
 use Rattle.core_due.proofs.{EndsAsked.if-some, Holding.there}
 
 none-is : {A : Type 0} (o : Option A) → is_none o ≡ true → o ≡ None

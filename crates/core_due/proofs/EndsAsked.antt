@@ -6,8 +6,8 @@ use Rattle.core_due.specs.declared.works.WorkDue.TheVariants.{Ends, Shows}
 use Rattle.row_ledger.specs.{declared.class.Subject.Subject, declared.settings.How.How}
 use Rattle.row_ledger.specs.declared.settings.How.TheVariants as how
 use Rattle.row_ledger.specs.declared.settings.Decline.TheVariants.{Unknown}
-use Rattle.volap_cell.specs.{Commands.{MayNoteEnd}, ImageKinds.doing, Invariant.InvWith, Setting.{Setting, ledger_cell}, Steps.{Inv, history_in}, View.view, World.World, declared.command.Work.Work}
-use Rattle.volap_cell.specs.declared.command.Work.TheVariants as work_is
+use Rattle.core_steps.specs.volap_cell.specs.{Commands.{MayNoteEnd}, ImageKinds.doing, Invariant.InvWith, Setting.{Setting, ledger_cell}, Steps.{Inv, history_in}, View.view, World.World, declared.command.Work.Work}
+use Rattle.core_steps.specs.volap_cell.specs.declared.command.Work.TheVariants as work_is
 
 -- where a test decides
 pub if-some : {A : Type 0} (P : A → Type 0) (b : Bool) (x : A) → (b ≡ true → P x) → IfSome (if b then Some x else None) P

@@ -6,15 +6,15 @@ use Rattle.cell_stock.specs.declared.purse.Spare.{Spare}
 use Rattle.core_due.specs.{Due.may_enter, Ready.{IsEntering, IsFree, IsLendable, IsRowPrepared}, Rows.{entrance_of, first_behind, gate_in, held_for, in_by, second_behind}, Spares.{last_spare, spare_before}}
 use Rattle.core_due.proofs.{AtParts.{led-gate, part-places, part-there}, Behind.{AreSpareCells, IsHeldTail, held-tail, numbers-of-two, tail_numbers, two-held, two-spares}, Gates.{MayEnter, gate-is, may-enter}, Heads.{AreBeside, beside, of-each}, Tables.{IsTable, table-of}, Owned.{behind-owned, gate-owned, lend-block, lend-gate, lend-map, map-tag, off-map, spare-owned, tree-owned}}
 use Rattle.core_steps.specs.{Places.{number_at, numbers}, Rows.row_places}
-use Rattle.core_tree.specs.Descent.{AreForNew}
-use Rattle.core_tree.proofs.{Calls.Lends.{lends-root, lent_as}, Rows.Carriers.purse-owned, Stocks.Spares.{AreDistinct, spares-distinct, spares-left}}
+use Rattle.core_steps.specs.core_tree.specs.Descent.{AreForNew}
+use Rattle.core_steps.specs.core_tree.proofs.{Calls.Lends.{lends-root, lent_as}, Rows.Carriers.purse-owned, Stocks.Spares.{AreDistinct, spares-distinct, spares-left}}
 use Rattle.dc_node.specs.{Block.is_full}
 use Rattle.list_words.specs.Counts.{Each}
 use Rattle.mapping_table.specs.declared.place.Where.TheVariants as where_is
-use Rattle.shard_store.specs.{Gate.root_entry, declared.gate.Gate.Gate, declared.gate.Phase.TheVariants.{Gone, Open}}
-use Rattle.tree_shape.specs.{Shape.{Shape, Table, TreeCells, nodes}, Trees.{IsBehind, IsBelow, IsTree}}
-use Rattle.tree_shape.proofs.Whole.Totals.{leads-root, root-leads}
-use Rattle.volap_cell.specs.{Cells.{CellValue, GateCell, block_in, gate_shard, phase_of, way_in}, Errands.is_filled, Ghost.{AGate, Ghost, InPurse, InTree}, Growing.table_of, Invariant.InvWith, Setting.{Setting, map_cell}, State.AreDifferent, Stocking.{IsWhole, cells_at, spent_of}, TreeKinds.IsTailOf, View.{view}, World.World}
+use Rattle.core_steps.specs.shard_store.specs.{Gate.root_entry, declared.gate.Gate.Gate, declared.gate.Phase.TheVariants.{Gone, Open}}
+use Rattle.core_steps.specs.tree_shape.specs.{Shape.{Shape, Table, TreeCells, nodes}, Trees.{IsBehind, IsBelow, IsTree}}
+use Rattle.core_steps.specs.tree_shape.proofs.Whole.Totals.{leads-root, root-leads}
+use Rattle.core_steps.specs.volap_cell.specs.{Cells.{CellValue, GateCell, block_in, gate_shard, phase_of, way_in}, Errands.is_filled, Ghost.{AGate, Ghost, InPurse, InTree}, Growing.table_of, Invariant.InvWith, Setting.{Setting, map_cell}, State.AreDifferent, Stocking.{IsWhole, cells_at, spent_of}, TreeKinds.IsTailOf, View.{view}, World.World}
 
 -- The step: in at the gate.
 pub record IsEntrance (s : Setting) (w : World) (n map gate : ℕ) : Type 0 where

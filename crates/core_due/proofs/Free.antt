@@ -3,8 +3,8 @@ use Rattle.std.proofs.{Common.{◌≡◌, ◌∙◌, ℕ, ◌<◌, Bool, true, f
 use Rattle.std.specs.{Option.{IfSome, option_map_or}, Prelude.{◌==◌, ◌||◌, option_and_then}}
 use Rattle.core_due.specs.{Ready.IsFree, Wants.{is_block_free, is_carried_at, is_drained, meets, wanted, wanted_of}}
 use Rattle.core_due.proofs.Below.{all_below-at}
-use Rattle.volap_cell.proofs.Persons.{has-taken}
-use Rattle.volap_cell.specs.{Errands.{IsCarried, RowWay, block_at, taken_by, taken_of, way_of}, Ghost.Ghost, Invariant.InvWith, Setting.{Setting, actor_count}, Values.ErrandValue, View.view, World.World, declared.kind.Kind.Kind}
+use Rattle.core_steps.specs.volap_cell.proofs.Persons.{has-taken}
+use Rattle.core_steps.specs.volap_cell.specs.{Errands.{IsCarried, RowWay, block_at, taken_by, taken_of, way_of}, Ghost.Ghost, Invariant.InvWith, Setting.{Setting, actor_count}, Values.ErrandValue, View.view, World.World, declared.kind.Kind.Kind}
 
 other : (same at : Bool) → (same || not at) ≡ true → same ≡ false → at ≡ false
 other same true e is = cc

@@ -2,9 +2,9 @@
 use Rattle.std.proofs.{Common.{◌≡◌, ◌≢◌, ◌∙◌, ℕ, ◌+◌, ◌≤◌, inl, inr, Bool, true, false, IsSome, length, Some, refl, sym, ap}, lemmas.Bool.{leb-false, leb-true}}
 use Rattle.std.specs.Prelude.{◌&&◌, nat_le}
 use Rattle.core_due.specs.Due.{is_gate_open, may_enter}
-use Rattle.shard_store.specs.{declared.gate.Gate.Gate, declared.gate.Phase.Phase, declared.gate.Phase.TheVariants.{Frozen, Gone, Open}}
-use Rattle.volap_cell.specs.{Cells.{BlockCell, CellValue, DeskCell, FreeCell, GateCell, ImageCell, LedgerCell, MapCell, RegistryCell, StockCell, gate_shard}, Errands.is_filled, TreeKinds.MayQueue, Values.ActorValue, declared.errand.Way.Way}
-use Rattle.volap_cell.specs.declared.errand.Way.TheVariants as way
+use Rattle.core_steps.specs.shard_store.specs.{declared.gate.Gate.Gate, declared.gate.Phase.Phase, declared.gate.Phase.TheVariants.{Frozen, Gone, Open}}
+use Rattle.core_steps.specs.volap_cell.specs.{Cells.{BlockCell, CellValue, DeskCell, FreeCell, GateCell, ImageCell, LedgerCell, MapCell, RegistryCell, StockCell, gate_shard}, Errands.is_filled, TreeKinds.MayQueue, Values.ActorValue, declared.errand.Way.Way}
+use Rattle.core_steps.specs.volap_cell.specs.declared.errand.Way.TheVariants as way
 
 pub gate-is : (c : CellValue) → IsSome (gate_shard c) → (gate : Gate) × (c ≡ GateCell gate)
 gate-is (GateCell gate) some = (gate, refl)

@@ -4,8 +4,8 @@ use Rattle.std.specs.Prelude.{IsSome}
 use Rattle.core_due.proofs.{Owned.map-tag, Tables.no-place}
 use Rattle.mapping_table.specs.declared.place.Where.{Where}
 use Rattle.mapping_table.specs.declared.place.Where.TheVariants as where_is
-use Rattle.volap_cell.proofs.Cells.Numbers.{is-map, tag-rest}
-use Rattle.volap_cell.specs.{Cells.{BlockCell, CellValue, DeskCell, FreeCell, GateCell, ImageCell, LedgerCell, MapCell, MapOf, OfStock, RegistryCell, StockCell, gate_shard, tag_of, where_in}, Ghost.Ghost, Invariant.InvWith, Setting.{Setting, map_cell}, View.view, World.World}
+use Rattle.core_steps.specs.volap_cell.proofs.Cells.Numbers.{is-map, tag-rest}
+use Rattle.core_steps.specs.volap_cell.specs.{Cells.{BlockCell, CellValue, DeskCell, FreeCell, GateCell, ImageCell, LedgerCell, MapCell, MapOf, OfStock, RegistryCell, StockCell, gate_shard, tag_of, where_in}, Ghost.Ghost, Invariant.InvWith, Setting.{Setting, map_cell}, View.view, World.World}
 
 -- what is the stock's leads nowhere
 stock-leads : {P : Type 0} (c : CellValue) (shard : ℕ) (to : Where) → tag_of c ≡ OfStock → where_in c shard ≡ Some to → P

@@ -6,8 +6,8 @@ use Rattle.core_due.proofs.{Behind.{IsHeldTail, apart-append, apart-by, tail_num
 use Rattle.dc_node.specs.declared.entry.Entry.{Entry}
 use Rattle.list_words.specs.Counts.{Each}
 use Rattle.list_words.proofs.Each.{each-append, each-map}
-use Rattle.tree_shape.specs.Trees.{IsBehind}
-use Rattle.volap_cell.specs.{Ghost.{Ghost, InPurse, InTree}, Invariant.InvWith, Setting.Setting, State.AreDifferent, Stocking.{IsWhole, cells_at}, View.view, World.World}
+use Rattle.core_steps.specs.tree_shape.specs.Trees.{IsBehind}
+use Rattle.core_steps.specs.volap_cell.specs.{Ghost.{Ghost, InPurse, InTree}, Invariant.InvWith, Setting.Setting, State.AreDifferent, Stocking.{IsWhole, cells_at}, View.view, World.World}
 
 -- it is one or the other
 abbrev pub IsBeside : Setting → World → Ghost → (n c head : ℕ) → ℕ → Type 0

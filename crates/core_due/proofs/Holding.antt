@@ -7,8 +7,8 @@ use Rattle.core_due.proofs.Owned.{lend-fixed, lend-spare, spare-owned}
 use Rattle.core_steps.specs.Places.{numbers, values_at}
 use Rattle.list_words.proofs.Each.{each-append}
 use Rattle.list_words.specs.Counts.{Among, Each}
-use Rattle.volap_cell.proofs.{Cells.Blanks.spare-owner, Cells.States.{stands}, Persons.has-command}
-use Rattle.volap_cell.specs.{Cells.{CellValue, OfStock, Tag, TheLedger, TheRegistry, TheStock, gate_shard, tag_of}, Ghost.{AGate, Ghost, InPurse}, Invariant.InvWith, Setting.{Setting, actor_count, first_stock_cell, ledger_cell, registry_cell, stock_cell}, State.{AreDifferent}, Steps.Inv, Values.{ActorValue}, View.view, World.{World}, declared.command.Command.Command}
+use Rattle.core_steps.specs.volap_cell.proofs.{Cells.Blanks.spare-owner, Cells.States.{stands}, Persons.has-command}
+use Rattle.core_steps.specs.volap_cell.specs.{Cells.{CellValue, OfStock, Tag, TheLedger, TheRegistry, TheStock, gate_shard, tag_of}, Ghost.{AGate, Ghost, InPurse}, Invariant.InvWith, Setting.{Setting, actor_count, first_stock_cell, ledger_cell, registry_cell, stock_cell}, State.{AreDifferent}, Steps.Inv, Values.{ActorValue}, View.view, World.{World}, declared.command.Command.Command}
 
 -- a cell that can be lent for a step that wants none free
 abbrev pub CanHold : Setting → World → (n y : ℕ) → Type 0

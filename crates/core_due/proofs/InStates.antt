@@ -7,8 +7,8 @@ use Rattle.core_steps.specs.{Parts.{part_asks, part_places}, Places.{numbers, va
 use Rattle.dim_hierarchy.specs.Dimension.{Dimension}
 use Rattle.list_words.proofs.Each.{each-map}
 use Rattle.row_ledger.specs.declared.settings.Use.{Use}
-use Rattle.volap_cell.proofs.Cells.States.{of-it, stands}
-use Rattle.volap_cell.specs.{Cells.{CellValue, cell_of}, Errands.{IsCarried, way_of}, Filling.cell_or, Setting.Setting, State.{Has, IsWorldOf}, Values.{ActorValue, ErrandValue, actor_of}, World.{MustKeep, World}, declared.actor.Actor.Actor, declared.cell.Cell.Cell, declared.state.State.State}
+use Rattle.core_steps.specs.volap_cell.proofs.Cells.States.{of-it, stands}
+use Rattle.core_steps.specs.volap_cell.specs.{Cells.{CellValue, cell_of}, Errands.{IsCarried, way_of}, Filling.cell_or, Setting.Setting, State.{Has, IsWorldOf}, Values.{ActorValue, ErrandValue, actor_of}, World.{MustKeep, World}, declared.actor.Actor.Actor, declared.cell.Cell.Cell, declared.state.State.State}
 
 -- Vectors and the state that they are.
 

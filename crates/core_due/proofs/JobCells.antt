@@ -3,16 +3,16 @@
 use Rattle.std.proofs.Common.{ℕ, ◌≡◌, ◌≢◌, ◌<◌, ◌≤◌, Bool, List, [], ◌∷◌, ◌++◌, Option, Some, None, inl, inr, refl, sym, ap, ◌∙◌, subst, arith, eq-eqb}
 use Rattle.std.specs.Prelude.{IsSome, ⊤, if◌then◌else◌}
 use Rattle.cell_stock.specs.{declared.purse.Spare.Spare}
-use Rattle.core_admin.proofs.Collecting.FrozenGates.{IsGateOf, frozen-gate, phase-gate}
-use Rattle.core_admin.specs.{CollectDue.CanCollectBlock, FinishDue.{CanBuildBlock}}
+use Rattle.core_steps.specs.core_admin.proofs.Collecting.FrozenGates.{IsGateOf, frozen-gate, phase-gate}
+use Rattle.core_steps.specs.core_admin.specs.{CollectDue.CanCollectBlock, FinishDue.{CanBuildBlock}}
 use Rattle.core_due.proofs.{GatesLed.{gate-stands, map-fixed}, Holding.{CanHold, CanHoldAll, hold-one}, Owned.{gate-low, lend-fixed, lend-gate}}
 use Rattle.dc_node.specs.declared.todo.Item.{Item}
-use Rattle.link_descent.specs.declared.entered.Fresh.{Fresh}
+use Rattle.core_steps.specs.link_descent.specs.declared.entered.Fresh.{Fresh}
 use Rattle.list_words.specs.Counts.{Among}
-use Rattle.shard_store.specs.declared.gate.Phase.TheVariants as phase
-use Rattle.tree_shape.specs.{Collecting.IsCollecting, Laws.ReadableLaw, Shape.numbers as numbers_of}
-use Rattle.volap_cell.proofs.{Cells.Blanks.spent-owner, Cells.Holding.carries, Cells.Numbers.is-map, Cells.Spares.among-cells, Persons.has-taken, Sums.sum-some}
-use Rattle.volap_cell.specs.{AdminKinds.{HasJob, spent_by, spent_in}, Cells.{CellValue, MapOf, TheStock, gate_shard, tag_of, where_in}, Errands.{RowWay, taken_by, taken_of, way_of}, Ghost.{Ghost, InJob, InTree, NotOfStock}, Growing.table_of, Invariant.InvWith, Setting.{Setting, actor_count, first_stock_cell, map_cell, stock_cell}, Steps.Inv, Stocking.{cells_at, spent_of}, Turning.{inside_of, is_inside}, Values.{CollectingValue, ErrandValue, JobValue, StageValue}, View.{View, view}, Working.{IsCollected, frozen_in}, World.{MustKeep, World}, declared.job.Frozen.Frozen}
+use Rattle.core_steps.specs.shard_store.specs.declared.gate.Phase.TheVariants as phase
+use Rattle.core_steps.specs.tree_shape.specs.{Collecting.IsCollecting, Laws.ReadableLaw, Shape.numbers as numbers_of}
+use Rattle.core_steps.specs.volap_cell.proofs.{Cells.Blanks.spent-owner, Cells.Holding.carries, Cells.Numbers.is-map, Cells.Spares.among-cells, Persons.has-taken, Sums.sum-some}
+use Rattle.core_steps.specs.volap_cell.specs.{AdminKinds.{HasJob, spent_by, spent_in}, Cells.{CellValue, MapOf, TheStock, gate_shard, tag_of, where_in}, Errands.{RowWay, taken_by, taken_of, way_of}, Ghost.{Ghost, InJob, InTree, NotOfStock}, Growing.table_of, Invariant.InvWith, Setting.{Setting, actor_count, first_stock_cell, map_cell, stock_cell}, Steps.Inv, Stocking.{cells_at, spent_of}, Turning.{inside_of, is_inside}, Values.{CollectingValue, ErrandValue, JobValue, StageValue}, View.{View, view}, Working.{IsCollected, frozen_in}, World.{MustKeep, World}, declared.job.Frozen.Frozen}
 use Rattle.mapping_table.specs.declared.place.Where.TheVariants as where_is
 
 -- the spare of a block that isn't built yet is among those of all blocks

@@ -2,25 +2,25 @@
 use Rattle.std.proofs.{Common.{ℕ, ◌≡◌, ◌<◌, ◌≤◌, ◌+◌, ◌-◌, ◌^◌, ◌∙◌, ◌==◌, Bool, true, false, is_none, is_some, List, [], length, Option, Some, None, inl, inr, refl, sym, ap, subst, arith, slice_get, get_or, eqb-true, if◌then◌else◌, ◌⊎◌}, lemmas.Bool.{eqb-false, ltb-false, ltb-true}, lemmas.Option.slice_get_cases}
 use Rattle.std.specs.Prelude.{IfSome, option_and_then, option_map}
 use Rattle.cell_stock.specs.declared.purse.Spare.{Spare}
-use Rattle.core_admin.specs.FinishDue.{IsBuiltUp, IsMovedUp}
+use Rattle.core_steps.specs.core_admin.specs.FinishDue.{IsBuiltUp, IsMovedUp}
 use Rattle.core_due.specs.{Wants.{is_drained, last_noted}, Works.{action_due, balance_due, build_due, collect_by, finish_due, freeze_at, has_more, load_at, load_due, move_with, or_declined, stage_due}, WorksReady.{IsJobAsked, IsNoteAsked, IsWorkAsked, most_in}, declared.works.WorkDue.WorkDue}
 use Rattle.core_due.specs.declared.works.WorkDue.TheVariants.{Ends, Leaves}
 use Rattle.core_due.proofs.{EndsAsked.ended, LastItems.{found-last, found-none, none-noted, noted-last}, GatesLed.led-tag, Owned.map-tag, Tables.table-of}
-use Rattle.core_image.proofs.Commands.NextAction.{inside, next-action, next-has-load}
-use Rattle.core_image.specs.NotesDue.{MayBeLeft}
+use Rattle.core_steps.specs.core_image.proofs.Commands.NextAction.{inside, next-action, next-has-load}
+use Rattle.core_steps.specs.core_image.specs.NotesDue.{MayBeLeft}
 use Rattle.core_steps.specs.declared.jobs.JobStep.TheVariants as job
 use Rattle.core_steps.specs.declared.notes.NoteStep.TheVariants.{Left}
-use Rattle.link_descent.specs.declared.entered.Fresh.{Fresh}
+use Rattle.core_steps.specs.link_descent.specs.declared.entered.Fresh.{Fresh}
 use Rattle.mapping_table.specs.declared.place.Where.{Where}
 use Rattle.mapping_table.specs.declared.place.Where.TheVariants as where_is
 use Rattle.row_ledger.specs.{declared.settings.Decline.Decline, declared.settings.Decline.TheVariants.Unknown}
 use Rattle.row_ledger.specs.declared.settings.How.TheVariants as how
 use Rattle.shard_plan.specs.{declared.action.Action.Action, declared.action.Load.Load}
-use Rattle.shard_store.specs.declared.gate.Phase.{Phase}
-use Rattle.shard_store.specs.declared.gate.Phase.TheVariants as phase
-use Rattle.volap_cell.proofs.Cells.Numbers.{is-map}
-use Rattle.volap_cell.specs.{Cells.{MapOf, active_in, phase_of, tag_of, where_in}, Commands.{EndsJob, EndsStage}, ImageKinds.doing, Invariant.InvWith, Planning.{HasLoadNext, job_for, next_job}, Setting.{Setting, ledger_cell, map_cell, registry_cell, stock_cell}, Steps.Inv, Values.{BuildingValue, Builds, CollectingValue, Collects, IsCalled, IsDeclined, IsFrozen, JobValue, StageValue}, View.view, Working.{IsJobOf, begun_job, frozen_in}, World.World, declared.command.Balance.Balance, declared.command.Command.Command, declared.command.Work.Work, declared.job.Frozen.Frozen}
-use Rattle.volap_cell.specs.declared.command.Work.TheVariants as work_is
+use Rattle.core_steps.specs.shard_store.specs.declared.gate.Phase.{Phase}
+use Rattle.core_steps.specs.shard_store.specs.declared.gate.Phase.TheVariants as phase
+use Rattle.core_steps.specs.volap_cell.proofs.Cells.Numbers.{is-map}
+use Rattle.core_steps.specs.volap_cell.specs.{Cells.{MapOf, active_in, phase_of, tag_of, where_in}, Commands.{EndsJob, EndsStage}, ImageKinds.doing, Invariant.InvWith, Planning.{HasLoadNext, job_for, next_job}, Setting.{Setting, ledger_cell, map_cell, registry_cell, stock_cell}, Steps.Inv, Values.{BuildingValue, Builds, CollectingValue, Collects, IsCalled, IsDeclined, IsFrozen, JobValue, StageValue}, View.view, Working.{IsJobOf, begun_job, frozen_in}, World.World, declared.command.Balance.Balance, declared.command.Command.Command, declared.command.Work.Work, declared.job.Frozen.Frozen}
+use Rattle.core_steps.specs.volap_cell.specs.declared.command.Work.TheVariants as work_is
 
 -- The queue as it was when the shard was frozen.
 

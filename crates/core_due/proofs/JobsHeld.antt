@@ -2,15 +2,15 @@
 use Rattle.std.proofs.{Common.{ℕ, ◌≡◌, ◌≢◌, ◌+◌, ◌<◌, ◌≤◌, Bool, true, false, cond, List, [], ◌∷◌, ◌++◌, refl, sym, ap, ◌∙◌, subst, arith, eq-eqb}, lemmas.List.map-append}
 use Rattle.std.specs.Prelude.{IsSome, ⊤}
 use Rattle.cell_stock.specs.{Stock.cells_of, declared.purse.Spare.Spare}
-use Rattle.core_admin.specs.{FinishDue.{IsBuiltUp, IsMovedUp}, SplitDue.CanFinishSplit}
+use Rattle.core_steps.specs.core_admin.specs.{FinishDue.{IsBuiltUp, IsMovedUp}, SplitDue.CanFinishSplit}
 use Rattle.core_due.specs.WorksReady.{IsJobAsked, IsJobPrepared}
 use Rattle.core_due.proofs.{Holding.{CanHoldAll, hold-spare, hold-two, hold-with-three, prepared, spare-low, spare-off-gate}, LastItems.{next-cell-among, cell-among}, Owned.{gate-low, lend-gate}}
 use Rattle.core_steps.specs.{Jobs.{job_asks, job_places}, Places.numbers, declared.jobs.JobStep.JobStep}
 use Rattle.core_steps.specs.declared.jobs.JobStep.TheVariants as job
 use Rattle.list_words.proofs.Times.{times-append}
 use Rattle.list_words.specs.Counts.{Among, times}
-use Rattle.tree_shape.specs.{Laws.ReadableLaw}
-use Rattle.volap_cell.specs.{Cells.{CellValue, MapOf, TheLedger, TheStock, gate_shard, tag_of, where_in}, Ghost.{Ghost, is_in_purse}, Invariant.InvWith, Setting.{Setting, actor_count, first_stock_cell, ledger_cell, stock_cell}, Steps.Inv, Values.{Builds}, View.{View, view}, World.{World}}
+use Rattle.core_steps.specs.tree_shape.specs.{Laws.ReadableLaw}
+use Rattle.core_steps.specs.volap_cell.specs.{Cells.{CellValue, MapOf, TheLedger, TheStock, gate_shard, tag_of, where_in}, Ghost.{Ghost, is_in_purse}, Invariant.InvWith, Setting.{Setting, actor_count, first_stock_cell, ledger_cell, stock_cell}, Steps.Inv, Values.{Builds}, View.{View, view}, World.{World}}
 use Rattle.core_due.proofs.JobCells.{freeze-held, hold-map, led-gate-held, map-is, map-low, map-off-stock, noted-held, one-gate, stands-here, unbuilt-held}
 
 twice : (y x : ℕ) → x ≡ y → times y (y ∷ x ∷ []) ≡ 2

@@ -2,10 +2,10 @@
 -- its spares, and of a tree those blocks at which nobody else carries a row.
 use Rattle.std.proofs.{Common.{◌≡◌, ◌≢◌, ◌∙◌, ℕ, ◌<◌, ◌≤◌, inl, inr, true, false, IsSome, refl, sym, ap, arith}, lemmas.Bool.cases_lt}
 use Rattle.core_due.specs.Ready.{IsFree, IsLendable}
-use Rattle.core_tree.proofs.Calls.Lends.{behind-unkept, spare-unkept}
-use Rattle.tree_shape.specs.Trees.{IsBehind}
-use Rattle.volap_cell.proofs.{Cells.Holding.{carries, keeps-block, one-keeps}, Cells.Numbers.{tag-desk, tag-map, tag-rest, tag-stock}}
-use Rattle.volap_cell.specs.{Cells.{BlockCell, CellValue, DeskCell, DeskOf, FreeCell, GateCell, ImageCell, LedgerCell, MapCell, MapOf, OfStock, RegistryCell, StockCell, TheStock, gate_shard, has_block, tag_of}, Ghost.{AGate, Ghost, InPurse, InTree, NotOfStock}, Invariant.InvWith, Setting.{Setting, desk_cell, first_stock_cell, map_cell, stock_cell}, Stocking.{IsWhole, cells_at}, View.{View, view}, World.{MustKeep, World}}
+use Rattle.core_steps.specs.core_tree.proofs.Calls.Lends.{behind-unkept, spare-unkept}
+use Rattle.core_steps.specs.tree_shape.specs.Trees.{IsBehind}
+use Rattle.core_steps.specs.volap_cell.proofs.{Cells.Holding.{carries, keeps-block, one-keeps}, Cells.Numbers.{tag-desk, tag-map, tag-rest, tag-stock}}
+use Rattle.core_steps.specs.volap_cell.specs.{Cells.{BlockCell, CellValue, DeskCell, DeskOf, FreeCell, GateCell, ImageCell, LedgerCell, MapCell, MapOf, OfStock, RegistryCell, StockCell, TheStock, gate_shard, has_block, tag_of}, Ghost.{AGate, Ghost, InPurse, InTree, NotOfStock}, Invariant.InvWith, Setting.{Setting, desk_cell, first_stock_cell, map_cell, stock_cell}, Stocking.{IsWhole, cells_at}, View.{View, view}, World.{MustKeep, World}}
 
 -- What is no block.
 

@@ -8,9 +8,9 @@ use Rattle.core_steps.specs.declared.trees.TreeStep.TheVariants as tree
 use Rattle.dc_node.specs.{Block.is_leaf, declared.todo.Item.Item}
 use Rattle.mapping_table.specs.declared.place.Where.{Where}
 use Rattle.mapping_table.specs.declared.place.Where.TheVariants as where_is
-use Rattle.volap_cell.specs.{Cells.{CellValue, block_in}, Setting.{Setting, desk_cell, map_cell}, Values.{ActorValue, ErrandValue, OfRow, Read, TaskValue, Unread}, World.World, declared.errand.Way.Way, declared.kind.Kind.Kind}
-use Rattle.volap_cell.specs.declared.errand.Way.TheVariants as way
-use Rattle.volap_cell.specs.declared.kind.Kind.TheVariants as kind
+use Rattle.core_steps.specs.volap_cell.specs.{Cells.{CellValue, block_in}, Setting.{Setting, desk_cell, map_cell}, Values.{ActorValue, ErrandValue, OfRow, Read, TaskValue, Unread}, World.World, declared.errand.Way.Way, declared.kind.Kind.Kind}
+use Rattle.core_steps.specs.volap_cell.specs.declared.errand.Way.TheVariants as way
+use Rattle.core_steps.specs.volap_cell.specs.declared.kind.Kind.TheVariants as kind
 
 either-kind : (b : Bool) (x y : PartDue) → due_kind (if b then x else y) ≡ (if b then due_kind x else due_kind y)
 either-kind true x y = refl

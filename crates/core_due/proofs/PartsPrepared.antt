@@ -4,12 +4,12 @@ use Rattle.std.specs.{Option.IfSome}
 use Rattle.core_due.specs.{Due.{is_empty, led_to, may_enter}, Parts.{due_at, ending, gate_due, part_due, row_due, task_due, visit_due}, Ready.{IsPartPrepared}, Wants.last_noted, declared.parts.PartDue.PartDue}
 use Rattle.core_due.specs.declared.parts.PartDue.TheVariants.{Descends, Enters, Part, Tree}
 use Rattle.core_due.proofs.{DueCases.{either, led}, LastItems.{ends-in, noted-at}, StepsPrepared.{ending-prepared, enter_queue-prepared, expand-prepared, forward-prepared, give_back-prepared, leave_tree-prepared, look_up-prepared, put_in_leaf-prepared, read_gate-prepared, refill-prepared, visit-prepared}}
-use Rattle.core_shard.specs.Due.{HasEnd, IsOut}
+use Rattle.core_steps.specs.core_shard.specs.Due.{HasEnd, IsOut}
 use Rattle.core_steps.specs.declared.trees.TreeStep.TheVariants as tree
 use Rattle.dc_node.specs.{Block.is_leaf, declared.todo.Item.Item}
 use Rattle.mapping_table.specs.declared.place.Where.TheVariants as where_is
-use Rattle.volap_cell.specs.{Cells.block_in, Errands.place_of, Ghost.Ghost, Invariant.InvWith, Setting.{Setting, desk_cell, map_cell}, ShardKinds.pin_of, Values.{ErrandValue, OfRow, Read, ReadingValue, TaskValue, Unread}, View.view, World.World, declared.errand.RowErrand.RowErrand, declared.errand.Way.Way}
-use Rattle.volap_cell.specs.declared.errand.Way.TheVariants as way
+use Rattle.core_steps.specs.volap_cell.specs.{Cells.block_in, Errands.place_of, Ghost.Ghost, Invariant.InvWith, Setting.{Setting, desk_cell, map_cell}, ShardKinds.pin_of, Values.{ErrandValue, OfRow, Read, ReadingValue, TaskValue, Unread}, View.view, World.World, declared.errand.RowErrand.RowErrand, declared.errand.Way.Way}
+use Rattle.core_steps.specs.volap_cell.specs.declared.errand.Way.TheVariants as way
 
 module _ (s : Setting) (w : World) (g : Ghost) (i : InvWith s (view s w) g) (n : ℕ) (e : ErrandValue) (errand : (w.actors n).errand ≡ Some e) where
   abbrev Is : PartDue → Type 0

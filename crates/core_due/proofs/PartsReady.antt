@@ -4,12 +4,12 @@ use Rattle.std.proofs.Common.{◌≡◌, ◌∙◌, ℕ, IfSome, true, List, Som
 use Rattle.core_due.specs.{Look.{cell_at, cells_only, world_by}, Parts.{due_may_fail, ending, part_due}, Ready.{CanDescend, HasPrepared, HasReady, IsAsked, IsDescending, IsEntering, IsFreeFor, IsPartPrepared, IsPartReady, IsStateOf, MayMakePart, head_of, wanted_by}, Rows.{descent_of, down_by, entrance_of, in_by, row_of}, declared.parts.PartDue.PartDue, Wants.meets}
 use Rattle.core_due.specs.declared.parts.PartDue.TheVariants.{Descends, Enters, Part, Tree}
 use Rattle.core_due.proofs.{Descents.{descent}, DueCases.of-some, Entrances.{entrance}, Free.{meets-free, wanted-at}, InStates.{cells-seen, part-may, row-may, tree-may}, PartsPrepared.part-prepared, PartsWant.{IsWanted, down-wants, in-wants, part-ends, part-wants}, StepsPrepared.ending-prepared}
-use Rattle.core_shard.specs.Due.{HasEnd}
+use Rattle.core_steps.specs.core_shard.specs.Due.{HasEnd}
 use Rattle.core_steps.specs.{Trees.tree_kind, declared.trees.TreeStep.TreeStep}
 use Rattle.dc_node.specs.Block.{IsBodyOf}
 use Rattle.dim_hierarchy.specs.{Dimension.Dimension, Rows.IsRowOf}
 use Rattle.row_ledger.specs.declared.settings.Use.{Use}
-use Rattle.volap_cell.specs.{Cells.{CellValue, block_in, way_in}, Setting.Setting, ShardKinds.pin_of, Steps.Inv, Values.ErrandValue, World.World, declared.kind.Kind.TheVariants.{Down, EnterTree}, declared.state.State.State}
+use Rattle.core_steps.specs.volap_cell.specs.{Cells.{CellValue, block_in, way_in}, Setting.Setting, ShardKinds.pin_of, Steps.Inv, Values.ErrandValue, World.World, declared.kind.Kind.TheVariants.{Down, EnterTree}, declared.state.State.State}
 
 module _ (s : Setting) (w : World) (n : ℕ) (inv : Inv s w) where
   module _ (e : ErrandValue) (errand : (w.actors n).errand ≡ Some e) (due : PartDue) (is : part_due s w (w.actors n) e ≡ Some due) where

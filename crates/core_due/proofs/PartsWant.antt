@@ -4,12 +4,12 @@ use Rattle.std.specs.{Option.IfSome, Prelude.{map, option_and_then, option_map}}
 use Rattle.core_due.specs.{Due.{is_empty, led_to, may_enter}, Parts.{due_may_fail, ending, gate_due, part_due, row_due, task_due, visit_due}, Ready.{IsDescending, IsEntering, wanted_by}, Wants.{child_wanted, last_noted, root_at, wanted, wanted_down, wanted_of, wanted_visit}, declared.parts.PartDue.PartDue}
 use Rattle.core_due.specs.declared.parts.PartDue.TheVariants.{Descends, Enters, Part, Tree}
 use Rattle.core_due.proofs.{DueCases.{either, led}, Free.wanted-at, Picks.HasPick}
-use Rattle.core_shard.specs.Due.{HasEnd}
+use Rattle.core_steps.specs.core_shard.specs.Due.{HasEnd}
 use Rattle.core_steps.specs.Trees.{tree_kind}
 use Rattle.core_steps.specs.declared.trees.TreeStep.TheVariants as tree
 use Rattle.dc_node.specs.{Block.{entries_in, is_leaf}, declared.entry.Entry.Entry}
-use Rattle.volap_cell.specs.{Cells.{block_in, way_in}, Errands.place_of, Setting.{Setting, desk_cell, map_cell}, Values.{ActorValue, ErrandValue, OfRow, Read, TaskValue, Unread}, World.World, declared.errand.RowErrand.RowErrand, declared.errand.Way.Way, declared.kind.Kind.TheVariants.{Down, EnterTree}}
-use Rattle.volap_cell.specs.declared.errand.Way.TheVariants as way
+use Rattle.core_steps.specs.volap_cell.specs.{Cells.{block_in, way_in}, Errands.place_of, Setting.{Setting, desk_cell, map_cell}, Values.{ActorValue, ErrandValue, OfRow, Read, TaskValue, Unread}, World.World, declared.errand.RowErrand.RowErrand, declared.errand.Way.Way, declared.kind.Kind.TheVariants.{Down, EnterTree}}
+use Rattle.core_steps.specs.volap_cell.specs.declared.errand.Way.TheVariants as way
 
 -- Where no memory is found.
 

@@ -4,9 +4,9 @@ use Rattle.std.specs.Prelude.{nat_lt}
 use Rattle.core_due.specs.{Works.{pull_due}, WorksReady.{IsWorkAsked}}
 use Rattle.list_words.proofs.Elements.{Some-same}
 use Rattle.row_ledger.specs.declared.settings.How.TheVariants as how
-use Rattle.volap_cell.proofs.Cells.Numbers.{tag-image}
-use Rattle.volap_cell.specs.{Commands.{MayNoteEnd, due_pull, settles_next}, ImageKinds.doing, Invariant.InvWith, Setting.{Setting, image_cell, ledger_cell, registry_cell}, Steps.{Inv}, View.view, World.World, declared.command.Work.Work}
-use Rattle.volap_cell.specs.declared.command.Work.TheVariants as work_is
+use Rattle.core_steps.specs.volap_cell.proofs.Cells.Numbers.{tag-image}
+use Rattle.core_steps.specs.volap_cell.specs.{Commands.{MayNoteEnd, due_pull, settles_next}, ImageKinds.doing, Invariant.InvWith, Setting.{Setting, image_cell, ledger_cell, registry_cell}, Steps.{Inv}, View.view, World.World, declared.command.Work.Work}
+use Rattle.core_steps.specs.volap_cell.specs.declared.command.Work.TheVariants as work_is
 use Rattle.core_due.proofs.EndsAsked.{ended}
 
 -- Settles.

@@ -4,9 +4,9 @@ use Rattle.core_due.specs.{Look.cells_only, Reuses.{earlier, earlier_released, f
 use Rattle.core_due.proofs.DueCases.{either}
 use Rattle.list_words.proofs.{Elements.Some-same, Times.same_not, Truth.on_bool}
 use Rattle.list_words.specs.Counts.{times}
-use Rattle.shard_store.specs.{declared.gate.Phase.Phase, declared.gate.Phase.TheVariants.{Frozen, Gone, Open}}
+use Rattle.core_steps.specs.shard_store.specs.{declared.gate.Phase.Phase, declared.gate.Phase.TheVariants.{Frozen, Gone, Open}}
 use Rattle.std.specs.Prelude.{option_map}
-use Rattle.volap_cell.specs.{Cells.{CellValue, phase_of, pins_in}, Reusing.is_gone, Values.ActorValue, World.World, declared.role.Role.Role, declared.role.Role.TheVariants.{Admin, Hand, Puller, Session}}
+use Rattle.core_steps.specs.volap_cell.specs.{Cells.{CellValue, phase_of, pins_in}, Reusing.is_gone, Values.ActorValue, World.World, declared.role.Role.Role, declared.role.Role.TheVariants.{Admin, Hand, Puller, Session}}
 
 -- A gate that is gone and has no pins.
 

@@ -2,17 +2,17 @@
 -- part and none is due no gate is gone.
 use Rattle.std.proofs.Common.{◌≡◌, ◌≢◌, ℕ, ◌-◌, ◌<◌, true, false, cond, IsSome, List, [], ◌∷◌, ◌++◌, length, slice_get, Option, Some, None, refl, sym, ap, ◌∙◌, subst, arith}
 use Rattle.std.specs.Prelude.{⊤, option_map}
-use Rattle.core_admin.specs.ReuseDue.{CanReuse}
-use Rattle.core_admin.proofs.{Collecting.FrozenGates.phase-gate, Reusing.FreesCells.in-tree}
+use Rattle.core_steps.specs.core_admin.specs.ReuseDue.{CanReuse}
+use Rattle.core_steps.specs.core_admin.proofs.{Collecting.FrozenGates.phase-gate, Reusing.FreesCells.in-tree}
 use Rattle.core_due.specs.{Reuses.{released, reuse_at, reuse_by, reuse_due, reuse_for}, ReuseLaws.{IsReuseDue, IsReusePrepared}}
 use Rattle.core_due.proofs.{Holding.{CanHold, CanHoldAll, hold-one, prepared}, LastItems.{found-last, found-none}, Owned.{gate-low, lend-block, lend-gate, tree-owned}, Released.{found-released, is-released, none-released, released-is}}
 use Rattle.core_steps.specs.{Reuses.{reuse_asks, reuse_places}, declared.reuses.ReuseStep.ReuseStep}
 use Rattle.core_steps.specs.declared.reuses.ReuseStep.TheVariants as reuse
 use Rattle.list_words.proofs.{Elements.Some-same, Times.{same_is, times-append}}
 use Rattle.list_words.specs.Counts.{times}
-use Rattle.shard_store.specs.{declared.gate.Phase.Phase, declared.gate.Phase.TheVariants.Gone}
-use Rattle.volap_cell.proofs.{Cells.Holding.carries, Persons.has-role, Sums.sum-zero}
-use Rattle.volap_cell.specs.{Cells.{CellValue, TheStock, gate_shard, gone_in, phase_of, pins_in}, Errands.read_of, Ghost.{AGate, Ghost, InTree}, Invariant.InvWith, Querying.pins_of, Reusing.is_gone, Setting.{Setting, actor_count, stock_cell}, Steps.Inv, Values.{ErrandValue}, View.{View, view}, World.{MustKeep, World}, declared.role.Role.Role, declared.role.Role.TheVariants.{Admin, Hand, Puller, Session}}
+use Rattle.core_steps.specs.shard_store.specs.{declared.gate.Phase.Phase, declared.gate.Phase.TheVariants.Gone}
+use Rattle.core_steps.specs.volap_cell.proofs.{Cells.Holding.carries, Persons.has-role, Sums.sum-zero}
+use Rattle.core_steps.specs.volap_cell.specs.{Cells.{CellValue, TheStock, gate_shard, gone_in, phase_of, pins_in}, Errands.read_of, Ghost.{AGate, Ghost, InTree}, Invariant.InvWith, Querying.pins_of, Reusing.is_gone, Setting.{Setting, actor_count, stock_cell}, Steps.Inv, Values.{ErrandValue}, View.{View, view}, World.{MustKeep, World}, declared.role.Role.Role, declared.role.Role.TheVariants.{Admin, Hand, Puller, Session}}
 
 module _ (s : Setting) (w : World) (inv : Inv s w) where
   abbrev v : View

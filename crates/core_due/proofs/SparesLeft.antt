@@ -2,15 +2,15 @@
 use Rattle.std.proofs.{Common.{◌≡◌, ◌∙◌, ℕ, ◌+◌, ◌≤◌, List, ◌++◌, length, map, take, Option, Some, None, sym, ap, inl, inr, arith}, lemmas.List.{length-append, length-map, length-take-le}}
 use Rattle.std.specs.Prelude.{IsSome}
 use Rattle.cell_stock.specs.declared.purse.Spare.{Spare}
-use Rattle.core_admin.proofs.{Building.BuildsHere.PartsFit, Building.MadeTrees.sides-count, Collecting.FrozenGates.{IsGateOf, frozen-gate}}
+use Rattle.core_steps.specs.core_admin.proofs.{Building.BuildsHere.PartsFit, Building.MadeTrees.sides-count, Collecting.FrozenGates.{IsGateOf, frozen-gate}}
 use Rattle.describing_set.specs.declared.plane.Plane.{Plane}
 use Rattle.dim_hierarchy.specs.declared.row.Row.{Row}
-use Rattle.link_descent.specs.declared.entered.Fresh.{Fresh}
+use Rattle.core_steps.specs.link_descent.specs.declared.entered.Fresh.{Fresh}
 use Rattle.measure_agg.specs.Aggregate.{Aggregate}
 use Rattle.shard_plan.specs.Building.{cells_for, split_need}
-use Rattle.shard_store.specs.declared.gate.Phase.TheVariants as phase
-use Rattle.tree_shape.specs.{Collecting.AfterCollecting, Laws.CollectEndLaw, Shape.numbers}
-use Rattle.volap_cell.specs.{AdminKinds.{cells_needed, left_of, right_of, spent_by, spent_in, tree_of}, Ghost.Ghost, Growing.table_of, Invariant.InvWith, Setting.Setting, Steps.Inv, Stocking.cells_at, Values.{BuildingValue, Builds, JobValue, StageValue}, View.{View, view}, Working.{IsBuilding, IsFrozenFor, frozen_in}, World.World, declared.job.BuiltTree.BuiltTree}
+use Rattle.core_steps.specs.shard_store.specs.declared.gate.Phase.TheVariants as phase
+use Rattle.core_steps.specs.tree_shape.specs.{Collecting.AfterCollecting, Laws.CollectEndLaw, Shape.numbers}
+use Rattle.core_steps.specs.volap_cell.specs.{AdminKinds.{cells_needed, left_of, right_of, spent_by, spent_in, tree_of}, Ghost.Ghost, Growing.table_of, Invariant.InvWith, Setting.Setting, Steps.Inv, Stocking.cells_at, Values.{BuildingValue, Builds, JobValue, StageValue}, View.{View, view}, Working.{IsBuilding, IsFrozenFor, frozen_in}, World.World, declared.job.BuiltTree.BuiltTree}
 
 none-some : (o : Option Plane) → o ≡ None → IsSome o → ⊥
 none-some None is some = cc

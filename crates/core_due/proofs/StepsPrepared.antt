@@ -3,15 +3,15 @@ use Rattle.std.proofs.{Common.{◌≡◌, ◌≢◌, ◌∙◌, ℕ, ◌<◌, in
 use Rattle.std.specs.Prelude.{⊤, if◌then◌else◌}
 use Rattle.core_due.specs.{Due.{is_empty, led_to, may_enter}, Parts.ending, Ready.{IsFreeFor, IsStepPrepared, IsTreePrepared}}
 use Rattle.core_due.proofs.{AtParts.{led-gate, left-gate, noted-block, part-no-job, part-places, part-there, pinned-gate}, Gates.{gate-is, must-queue}, Tables.{IsTable, table-of}, Owned.{desk-tag, gate-owned, lend-block, lend-desk, lend-gate, lend-map, lend-own, lend-stock, map-off-desk, map-tag, off-desk, off-map, stock-tag}}
-use Rattle.core_shard.specs.Due.{HasEnd, IsGateOf, IsOut}
+use Rattle.core_steps.specs.core_shard.specs.Due.{HasEnd, IsGateOf, IsOut}
 use Rattle.core_steps.specs.declared.parts.PartStep.TheVariants as part
 use Rattle.core_steps.specs.declared.trees.TreeStep.TheVariants as tree
 use Rattle.dc_node.specs.{Block.is_leaf, declared.todo.Item.Item}
 use Rattle.describing_set.specs.declared.plane.Plane.{Plane}
 use Rattle.dim_hierarchy.specs.declared.filter.Pick.{Pick}
 use Rattle.mapping_table.specs.declared.place.Where.TheVariants as where_is
-use Rattle.volap_cell.specs.{Cells.{CellValue, block_in, gate_shard}, Errands.{IsCarried, block_at, height_in_task, height_of, height_to_fill, is_filled, place_of, way_in_task, way_of}, Ghost.Ghost, Invariant.InvWith, Setting.{Setting, actor_count, desk_cell, map_cell}, ShardKinds.pin_of, TreeKinds.HasRow, Values.{ActorValue, ErrandValue, OfRow, Read, ReadingValue, TaskValue, Unread}, View.view, World.{MustKeep, World}, declared.errand.RowErrand.RowErrand, declared.errand.Way.Way}
-use Rattle.volap_cell.specs.declared.errand.Way.TheVariants as way
+use Rattle.core_steps.specs.volap_cell.specs.{Cells.{CellValue, block_in, gate_shard}, Errands.{IsCarried, block_at, height_in_task, height_of, height_to_fill, is_filled, place_of, way_in_task, way_of}, Ghost.Ghost, Invariant.InvWith, Setting.{Setting, actor_count, desk_cell, map_cell}, ShardKinds.pin_of, TreeKinds.HasRow, Values.{ActorValue, ErrandValue, OfRow, Read, ReadingValue, TaskValue, Unread}, View.view, World.{MustKeep, World}, declared.errand.RowErrand.RowErrand, declared.errand.Way.Way}
+use Rattle.core_steps.specs.volap_cell.specs.declared.errand.Way.TheVariants as way
 
 -- an actor that carries its row at a block must keep that
 pub carried-own : (a : ActorValue) (e : ErrandValue) (r : RowErrand) (gate block : ℕ) → a.errand ≡ Some e → e.task ≡ OfRow r → r.way ≡ way.Carried gate block → MustKeep a block

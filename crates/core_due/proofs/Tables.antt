@@ -3,7 +3,7 @@ use Rattle.std.proofs.Common.{◌≡◌, ℕ, Option, Some, None, ap}
 use Rattle.std.specs.Ordering.{nat_cmp}
 use Rattle.std.specs.FinMap as map
 use Rattle.mapping_table.specs.declared.place.Where.{Where}
-use Rattle.volap_cell.specs.Cells.{BlockCell, CellValue, DeskCell, FreeCell, GateCell, ImageCell, LedgerCell, MapCell, MapOf, RegistryCell, StockCell, tag_of, where_in}
+use Rattle.core_steps.specs.volap_cell.specs.Cells.{BlockCell, CellValue, DeskCell, FreeCell, GateCell, ImageCell, LedgerCell, MapCell, MapOf, RegistryCell, StockCell, tag_of, where_in}
 
 -- a table that leads somewhere
 pub record IsTable (c : CellValue) (worker shard : ℕ) (to : Where) : Type 0 where

@@ -10,17 +10,17 @@ use Rattle.core_steps.specs.{Books.book_kind, declared.books.BookStep.BookStep}
 use Rattle.core_steps.specs.declared.books.BookStep.TheVariants as book
 use Rattle.core_steps.specs.declared.jobs.JobStep.TheVariants as job
 use Rattle.core_steps.specs.Jobs.{job_kind as kind_of_job}
-use Rattle.link_descent.specs.declared.entered.Fresh.{Fresh}
+use Rattle.core_steps.specs.link_descent.specs.declared.entered.Fresh.{Fresh}
 use Rattle.query_router.specs.{Desk.{is_waiting, verdict_of}, declared.part.Part.Part, declared.part.Verdict.Verdict}
 use Rattle.query_router.specs.declared.part.Verdict.TheVariants as verdict
 use Rattle.row_ledger.specs.declared.settings.Decline.{Decline}
 use Rattle.row_ledger.specs.{Shards.{Place, frontier, is_of}, Workers.is_on, declared.class.Subject.Subject, declared.event.Event.Event}
 use Rattle.row_ledger.specs.declared.settings.How.TheVariants as how
 use Rattle.shard_plan.specs.{declared.action.Action.Action, declared.action.Load.Load}
-use Rattle.tree_shape.specs.Laws.{CollectEndLaw}
-use Rattle.volap_cell.specs.{Cells.{desk_in}, ImageKinds.doing, Invariant.InvWith, JobSteps.{finish_kind, stage_kind}, Setting.{Setting, desk_cell, image_cell, map_cell}, Steps.{Inv, history_in}, Values.{ActorValue, BuildingValue, Builds, Collects, IsCalled, IsDeclined, IsFrozen, JobValue, StageValue}, View.view, Working.places_in, World.World, declared.command.Balance.Balance, declared.command.Work.Work, declared.role.Role.Role, declared.role.Role.TheVariants.{Admin, Hand, Puller, Session}}
-use Rattle.volap_cell.specs.declared.command.Work.TheVariants as work_is
-use Rattle.volap_cell.specs.declared.kind.Kind.TheVariants as kind
+use Rattle.core_steps.specs.tree_shape.specs.Laws.{CollectEndLaw}
+use Rattle.core_steps.specs.volap_cell.specs.{Cells.{desk_in}, ImageKinds.doing, Invariant.InvWith, JobSteps.{finish_kind, stage_kind}, Setting.{Setting, desk_cell, image_cell, map_cell}, Steps.{Inv, history_in}, Values.{ActorValue, BuildingValue, Builds, Collects, IsCalled, IsDeclined, IsFrozen, JobValue, StageValue}, View.view, Working.places_in, World.World, declared.command.Balance.Balance, declared.command.Work.Work, declared.role.Role.Role, declared.role.Role.TheVariants.{Admin, Hand, Puller, Session}}
+use Rattle.core_steps.specs.volap_cell.specs.declared.command.Work.TheVariants as work_is
+use Rattle.core_steps.specs.volap_cell.specs.declared.kind.Kind.TheVariants as kind
 
 -- where a test decides
 if-kind : (b : Bool) (x : WorkDue) → option_map work_due_kind (if b then Some x else None) ≡ (if b then Some (work_due_kind x) else None)

@@ -1,7 +1,7 @@
 -- What is due for an open command asks nothing but what is so, and its cells are there.
 use Rattle.std.proofs.{Common.{ℕ, ◌≡◌, ◌<◌, ◌+◌, ◌==◌, ◌&&◌, ◌∙◌, Bool, true, false, List, length, Some, None, refl, sym, ap, subst, if◌then◌else◌}, lemmas.Bool.and_parts}
 use Rattle.std.specs.Prelude.{IfSome}
-use Rattle.core_admin.proofs.Building.BuildsHere.{PartsFit}
+use Rattle.core_steps.specs.core_admin.proofs.Building.BuildsHere.{PartsFit}
 use Rattle.core_due.specs.{Splits.split_of, Wants.is_drained, Works.work_due, WorksReady.{AreBytes, IsJobAsked, IsJobPrepared, IsShowing, IsSplitPrepared, IsSplitting, IsWorkAsked, IsWorkPrepared}, declared.works.WorkDue.WorkDue}
 use Rattle.core_due.specs.declared.works.WorkDue.TheVariants.{Books, Ends, Jobs, Leaves, Shows, Splits, Takes}
 use Rattle.core_due.proofs.{BooksHeld.{book-prepared, end-prepared, leave-prepared, take-prepared}, DesksAsked.{insert-asked, query-asked, route-asked}, DueCases.of-some, EndsAsked.{ended, page-asked}, PullsAsked.{settle-asked, sync-asked}, Holding.there, JobsAsked.{action-asked, balance-asked, built-up, table-is}, JobsHeld.job-prepared, LastItems.{HasLastTwo, ends-in-two, split-is}, SparesLeft.{AreTwo, two-left, two-trees}}
@@ -10,10 +10,10 @@ use Rattle.core_steps.specs.declared.jobs.JobStep.TheVariants as job
 use Rattle.list_words.proofs.Elements.{Some-same}
 use Rattle.row_ledger.specs.{declared.class.Subject.Subject, declared.event.Event.Event}
 use Rattle.row_ledger.specs.declared.settings.How.TheVariants as how
-use Rattle.tree_shape.specs.Laws.{CollectEndLaw, ReadableLaw}
-use Rattle.volap_cell.proofs.Cells.States.{is-some}
-use Rattle.volap_cell.specs.{ImageKinds.doing, Setting.{Setting, actor_count, map_cell}, Steps.{Inv, history_in}, World.World, declared.command.Command.Command, declared.command.Work.Work}
-use Rattle.volap_cell.specs.declared.command.Work.TheVariants as work_is
+use Rattle.core_steps.specs.tree_shape.specs.Laws.{CollectEndLaw, ReadableLaw}
+use Rattle.core_steps.specs.volap_cell.proofs.Cells.States.{is-some}
+use Rattle.core_steps.specs.volap_cell.specs.{ImageKinds.doing, Setting.{Setting, actor_count, map_cell}, Steps.{Inv, history_in}, World.World, declared.command.Command.Command, declared.command.Work.Work}
+use Rattle.core_steps.specs.volap_cell.specs.declared.command.Work.TheVariants as work_is
 
 module _ (s : Setting) (w : World) (inv : Inv s w) (n of : ℕ) (work : Work) (command : (w.actors n).command ≡ doing of work) (free : (w.actors n).errand ≡ None) (bytes : AreBytes s.servers work) (waits : is_drained w (w.actors n).job ≡ true) where
   each-asked : (alone : Bool) (k : Work) → work ≡ k → IfSome (work_due s w (history_in w) alone (w.actors n) of k) (IsWorkAsked s w n)

@@ -3,16 +3,16 @@ use Rattle.std.proofs.Common.{ℕ, ◌≡◌, ◌<◌, ◌∙◌, true, false, O
 use Rattle.core_due.specs.{WorksReady.{AreBytes, IsBookAsked, IsInsteadPrepared, IsJobAsked, IsJobPrepared, IsNotePrepared, IsStopFor, IsWorkAsked}, declared.works.WorkDue.WorkDue}
 use Rattle.core_due.specs.declared.works.WorkDue.TheVariants.{Books, Ends, Jobs, Leaves, Shows, Splits, Takes}
 use Rattle.core_due.proofs.{BooksHeld.{book-prepared, end-prepared, leave-prepared}, EndsAsked.ended, Holding.there, JobsAsked.{left-asked, next-stands, over-few}, JobsHeld.job-prepared}
-use Rattle.core_image.proofs.EachStep.SyncsImage.{settle-goes}
-use Rattle.core_image.specs.NotesDue.{MayBeLeft}
+use Rattle.core_steps.specs.core_image.proofs.EachStep.SyncsImage.{settle-goes}
+use Rattle.core_steps.specs.core_image.specs.NotesDue.{MayBeLeft}
 use Rattle.core_steps.specs.{declared.books.BookStep.BookStep, declared.jobs.JobStep.JobStep}
 use Rattle.core_steps.specs.declared.books.BookStep.TheVariants as book
 use Rattle.core_steps.specs.declared.jobs.JobStep.TheVariants as job
 use Rattle.core_steps.specs.declared.notes.NoteStep.TheVariants as note
 use Rattle.row_ledger.specs.declared.settings.How.TheVariants.{NoMemory}
-use Rattle.tree_shape.specs.Laws.{ReadableLaw}
-use Rattle.volap_cell.specs.{AdminKinds.{HasFrozen, HasJob}, Commands.{EndsJob, EndsStage, MayNoteEnd, due_pull}, ImageKinds.doing, Setting.{Setting, actor_count, ledger_cell, stock_cell}, Steps.Inv, Values.{IsCalled, JobValue, StageValue}, Working.IsJobOf, World.World, declared.command.Command.Command, declared.command.Work.Work}
-use Rattle.volap_cell.specs.declared.command.Work.TheVariants as work_is
+use Rattle.core_steps.specs.tree_shape.specs.Laws.{ReadableLaw}
+use Rattle.core_steps.specs.volap_cell.specs.{AdminKinds.{HasFrozen, HasJob}, Commands.{EndsJob, EndsStage, MayNoteEnd, due_pull}, ImageKinds.doing, Setting.{Setting, actor_count, ledger_cell, stock_cell}, Steps.Inv, Values.{IsCalled, JobValue, StageValue}, Working.IsJobOf, World.World, declared.command.Command.Command, declared.command.Work.Work}
+use Rattle.core_steps.specs.volap_cell.specs.declared.command.Work.TheVariants as work_is
 
 -- a command of which a pull is due may end for want of memory
 pull-ends : (servers server : ℕ) (work : Work) (o : Option JobValue) → due_pull servers work ≡ Some server → MayNoteEnd servers work o NoMemory

@@ -12,9 +12,9 @@ use Rattle.core_steps.specs.declared.parts.PartStep.TheVariants as part
 use Rattle.dim_hierarchy.specs.Dimension.{Dimension}
 use Rattle.row_ledger.specs.{declared.settings.How.How, declared.settings.Use.Use}
 use Rattle.row_ledger.specs.declared.settings.How.TheVariants.{NoMemory}
-use Rattle.volap_cell.proofs.Cells.States.{is-some, stands}
-use Rattle.volap_cell.specs.{Cells.{CellValue}, Setting.{Setting}, State.{Has}, Values.{ActorValue, actor_of}, World.{World}, declared.command.Work.Work, declared.state.State.State}
-use Rattle.volap_cell.specs.declared.command.Work.TheVariants as work_is
+use Rattle.core_steps.specs.volap_cell.proofs.Cells.States.{is-some, stands}
+use Rattle.core_steps.specs.volap_cell.specs.{Cells.{CellValue}, Setting.{Setting}, State.{Has}, Values.{ActorValue, actor_of}, World.{World}, declared.command.Work.Work, declared.state.State.State}
+use Rattle.core_steps.specs.volap_cell.specs.declared.command.Work.TheVariants as work_is
 
 module _ (h : List Dimension) (with : Use) (state : State) (s : Setting) (w : World) (is : IsStateOf h with state s w) (n : ℕ) where
   can-make : (row : List (Option ℕ)) (Asks : List Dimension → List (Option CellValue) → ActorValue → Type 0) → IsPrepared s w n row (Asks s.hierarchy) ⊤ → MayMake h state n row (Asks h) (λ t v m. ⊤)

@@ -5,7 +5,7 @@ use Rattle.core_due.specs.{Look.{cells_only, history_at, setting_by, world_by}, 
 use Rattle.core_due.proofs.InStates.{cells-seen, counted}
 use Rattle.dim_hierarchy.specs.Dimension.{Dimension}
 use Rattle.row_ledger.specs.{declared.event.Event.Event, declared.settings.Use.Use}
-use Rattle.volap_cell.specs.{Cells.{CellValue, ledger_in}, Setting.{Setting, ledger_cell}, Steps.history_in, Values.ActorValue, World.World, declared.command.Work.Work, declared.state.State.State}
+use Rattle.core_steps.specs.volap_cell.specs.{Cells.{CellValue, ledger_in}, Setting.{Setting, ledger_cell}, Steps.history_in, Values.ActorValue, World.World, declared.command.Work.Work, declared.state.State.State}
 
 -- no more is read of a state
 work-told : (s : Setting) (w : World) (history : List Event) (alone : Bool) (a : ActorValue) (of : ℕ) (work : Work)

@@ -3,7 +3,7 @@ use Rattle.std.specs.{List.list_any, Prelude.{ℕ, ◌≡◌, ◌<◌, true, fal
 use Rattle.core_due.specs.{Due.any_below, Look.{cell_at, setting_by}}
 use Rattle.query_router.specs.Desk.{waits_for}
 use Rattle.row_ledger.specs.declared.settings.Use.{Use}
-use Rattle.volap_cell.specs.{Cells.desk_in, Setting.desk_cell, declared.cell.Cell.Cell}
+use Rattle.core_steps.specs.volap_cell.specs.{Cells.desk_in, Setting.desk_cell, declared.cell.Cell.Cell}
 
 -- the server is the first one on whose desk a part waits for the worker
 pub record IsAwaited (with : Use) (cells : List (Option Cell)) (worker server : ℕ) : Type 0 where

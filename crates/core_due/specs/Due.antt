@@ -7,13 +7,13 @@ use Rattle.mapping_table.specs.declared.place.Where.TheVariants as where_is
 use Rattle.query_router.specs.{Desk.{DeskValue, is_waiting, waits_for, verdict_of}, declared.part.Part.Part, declared.part.Verdict.Verdict}
 use Rattle.query_router.specs.declared.part.Verdict.TheVariants as verdict
 use Rattle.row_ledger.specs.declared.event.Event.{Event}
-use Rattle.shard_store.specs.{declared.gate.Phase.Phase, declared.gate.Phase.TheVariants.Open}
-use Rattle.volap_cell.specs.{Cells.{CellValue, block_in, desk_in, phase_of, way_in, where_in}, Commands.settles_next, Setting.{Setting, desk_cell, map_cell}, Values.{ActorValue, ErrandValue, TaskValue, OfRow, Unread, Read, JobValue}, World.World, declared.command.Balance.Balance, declared.command.Work.Work, declared.errand.Way.Way, declared.kind.Kind.Kind, declared.role.Role.Role}
-pub use Rattle.volap_cell.specs.JobSteps.{finish_kind, is_empty, next_of_job, stage_kind}
-use Rattle.volap_cell.specs.declared.command.Work.TheVariants as work_is
-use Rattle.volap_cell.specs.declared.errand.Way.TheVariants as way
-use Rattle.volap_cell.specs.declared.kind.Kind.TheVariants as kind
-use Rattle.volap_cell.specs.declared.role.Role.TheVariants as role
+use Rattle.core_steps.specs.shard_store.specs.{declared.gate.Phase.Phase, declared.gate.Phase.TheVariants.Open}
+use Rattle.core_steps.specs.volap_cell.specs.{Cells.{CellValue, block_in, desk_in, phase_of, way_in, where_in}, Commands.settles_next, Setting.{Setting, desk_cell, map_cell}, Values.{ActorValue, ErrandValue, TaskValue, OfRow, Unread, Read, JobValue}, World.World, declared.command.Balance.Balance, declared.command.Work.Work, declared.errand.Way.Way, declared.kind.Kind.Kind, declared.role.Role.Role}
+pub use Rattle.core_steps.specs.volap_cell.specs.JobSteps.{finish_kind, is_empty, next_of_job, stage_kind}
+use Rattle.core_steps.specs.volap_cell.specs.declared.command.Work.TheVariants as work_is
+use Rattle.core_steps.specs.volap_cell.specs.declared.errand.Way.TheVariants as way
+use Rattle.core_steps.specs.volap_cell.specs.declared.kind.Kind.TheVariants as kind
+use Rattle.core_steps.specs.volap_cell.specs.declared.role.Role.TheVariants as role
 
 -- Tests of each number below one.
 

@@ -5,7 +5,7 @@ use Rattle.core_due.specs.declared.parts.PartDue.TheVariants.{Tree}
 use Rattle.core_steps.specs.{Steps.IsSame, Trees.tree_kind, declared.trees.TreeStep.TreeStep, declared.trees.TreeStep.TheVariants.GiveBack}
 use Rattle.dim_hierarchy.specs.Dimension.{Dimension}
 use Rattle.row_ledger.specs.declared.settings.Use.{Use}
-use Rattle.volap_cell.specs.{Setting.Setting, ShardKinds.pin_of, Steps.Inv, Values.{ActorValue, ErrandValue}, World.World, declared.kind.Kind.TheVariants.{Down, EnterTree}, declared.state.State.State}
+use Rattle.core_steps.specs.volap_cell.specs.{Setting.Setting, ShardKinds.pin_of, Steps.Inv, Values.{ActorValue, ErrandValue}, World.World, declared.kind.Kind.TheVariants.{Down, EnterTree}, declared.state.State.State}
 
 -- Of every state that meets the invariant.
 

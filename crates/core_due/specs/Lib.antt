@@ -13,3 +13,12 @@ pub mod WorksReady
 pub mod Laws
 pub mod WorkLaws
 pub mod ReuseLaws
+-- What stands below is passed on.
+pub use Rattle.core_steps.specs.shard_store
+pub use Rattle.core_steps.specs.link_descent
+pub use Rattle.core_steps.specs.volap_cell
+pub use Rattle.core_steps.specs.core_tree
+pub use Rattle.core_steps.specs.core_image
+pub use Rattle.core_steps.specs.core_shard
+pub use Rattle.core_steps.specs.core_admin
+pub use Rattle.core_steps

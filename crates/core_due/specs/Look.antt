@@ -2,8 +2,8 @@
 use Rattle.std.specs.Prelude.{ℕ, ◌&&◌, Bool, not, Option, None, List, [], get_or, false}
 use Rattle.dim_hierarchy.specs.Dimension.{Dimension}
 use Rattle.row_ledger.specs.{declared.event.Event.Event, declared.settings.Use.Use}
-use Rattle.volap_cell.specs.{Cells.{CellValue, ledger_in}, Filling.cell_or, Setting.{Setting, ledger_cell}, Values.ActorValue, World.World, declared.cell.Cell.Cell, declared.command.Work.Work, declared.role.Role.TheVariants.Admin}
-use Rattle.volap_cell.specs.declared.command.Work.TheVariants as work_is
+use Rattle.core_steps.specs.volap_cell.specs.{Cells.{CellValue, ledger_in}, Filling.cell_or, Setting.{Setting, ledger_cell}, Values.ActorValue, World.World, declared.cell.Cell.Cell, declared.command.Work.Work, declared.role.Role.TheVariants.Admin}
+use Rattle.core_steps.specs.volap_cell.specs.declared.command.Work.TheVariants as work_is
 
 -- What is seen.
 

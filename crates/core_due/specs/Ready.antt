@@ -11,8 +11,8 @@ use Rattle.dim_hierarchy.specs.{Dimension.Dimension, Rows.IsRowOf}
 use Rattle.list_words.specs.Counts.{Each}
 use Rattle.mapping_table.specs.declared.place.Where.TheVariants as where_is
 use Rattle.row_ledger.specs.declared.settings.Use.{Use}
-use Rattle.volap_cell.specs.{Cells.{CellValue, block_in}, Setting.{Setting, actor_count, cell_count, map_cell}, State.{AreDifferent, IsWorldOf}, Steps.Inv, Values.{ActorValue, ErrandValue, OfRow}, World.{World, MustKeep}, declared.cell.Cell.Cell, declared.errand.RowErrand.RowErrand, declared.kind.Kind.Kind, declared.state.State.State}
-use Rattle.volap_cell.specs.declared.errand.Way.TheVariants as way
+use Rattle.core_steps.specs.volap_cell.specs.{Cells.{CellValue, block_in}, Setting.{Setting, actor_count, cell_count, map_cell}, State.{AreDifferent, IsWorldOf}, Steps.Inv, Values.{ActorValue, ErrandValue, OfRow}, World.{World, MustKeep}, declared.cell.Cell.Cell, declared.errand.RowErrand.RowErrand, declared.kind.Kind.Kind, declared.state.State.State}
+use Rattle.core_steps.specs.volap_cell.specs.declared.errand.Way.TheVariants as way
 
 -- A state that one thread holds.
 

@@ -4,8 +4,8 @@ use Rattle.core_due.specs.{Look.world_by, Ready.{IsPrepared, IsStateOf}, Reuses.
 use Rattle.core_steps.specs.{Reuses.{reuse_asks, reuse_places}, Steps.MayMake, declared.reuses.ReuseStep.ReuseStep}
 use Rattle.dim_hierarchy.specs.Dimension.{Dimension}
 use Rattle.row_ledger.specs.declared.settings.Use.{Use}
-use Rattle.shard_store.specs.declared.gate.Phase.TheVariants.{Gone}
-use Rattle.volap_cell.specs.{Ghost.Ghost, Invariant.InvWith, Setting.Setting, Steps.Inv, Values.ActorValue, View.view, World.World, declared.role.Role.TheVariants.Admin, declared.state.State.State}
+use Rattle.core_steps.specs.shard_store.specs.declared.gate.Phase.TheVariants.{Gone}
+use Rattle.core_steps.specs.volap_cell.specs.{Ghost.Ghost, Invariant.InvWith, Setting.Setting, Steps.Inv, Values.ActorValue, View.view, World.World, declared.role.Role.TheVariants.Admin, declared.state.State.State}
 
 abbrev pub IsReusePrepared : Setting → World → ℕ → ReuseStep → Type 0
 IsReusePrepared s w n step = IsPrepared s w n (reuse_places step) (reuse_asks step s.hierarchy) ⊤

@@ -2,7 +2,7 @@
 use Rattle.std.specs.Prelude.{ℕ, ◌==◌, ◌&&◌, ◌||◌, ◌-◌, Bool, nat_lt, if◌then◌else◌, List, [], ◌∷◌, length, slice_get, Option, Some, None, option_map}
 use Rattle.core_steps.specs.declared.reuses.ReuseStep.{ReuseStep}
 use Rattle.core_steps.specs.declared.reuses.ReuseStep.TheVariants as reuse
-use Rattle.volap_cell.specs.{Cells.{CellValue, GateCell, gone_in, phase_of, pins_in}, Reusing.is_gone, Values.ActorValue, World.World, declared.role.Role.Role, declared.role.Role.TheVariants.Admin}
+use Rattle.core_steps.specs.volap_cell.specs.{Cells.{CellValue, GateCell, gone_in, phase_of, pins_in}, Reusing.is_gone, Values.ActorValue, World.World, declared.role.Role.Role, declared.role.Role.TheVariants.Admin}
 
 -- the gate is gone, and no query is pinned to it
 abbrev pub is_released : CellValue → Bool

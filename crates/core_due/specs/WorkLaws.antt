@@ -5,7 +5,7 @@ use Rattle.core_due.specs.declared.works.WorkDue.TheVariants.{Shows}
 use Rattle.core_steps.specs.Steps.{IsSame}
 use Rattle.dim_hierarchy.specs.Dimension.{Dimension}
 use Rattle.row_ledger.specs.{declared.class.Subject.Subject, declared.event.Event.Event, declared.settings.Use.Use}
-use Rattle.volap_cell.specs.{ImageKinds.doing, Setting.Setting, Steps.{Inv, history_in}, Values.ActorValue, World.World, declared.command.Work.Work, declared.state.State.State}
+use Rattle.core_steps.specs.volap_cell.specs.{ImageKinds.doing, Setting.Setting, Steps.{Inv, history_in}, Values.ActorValue, World.World, declared.command.Work.Work, declared.state.State.State}
 
 -- an actor with this command is at no part, and waits for no inserts
 pub record IsAtWork (w : World) (n of : ℕ) (work : Work) : Type 0 where

@@ -6,7 +6,7 @@ use Rattle.core_due.specs.declared.works.WorkDue.TheVariants.{Books, Ends, Jobs,
 use Rattle.core_steps.specs.{Books.book_kind, Jobs.job_kind, declared.books.BookStep.BookStep, declared.jobs.JobStep.JobStep}
 use Rattle.core_steps.specs.declared.books.BookStep.TheVariants as book
 use Rattle.core_steps.specs.declared.jobs.JobStep.TheVariants as job
-use Rattle.link_descent.specs.declared.entered.Fresh.{Fresh}
+use Rattle.core_steps.specs.link_descent.specs.declared.entered.Fresh.{Fresh}
 use Rattle.mapping_table.specs.declared.place.Where.{Where}
 use Rattle.mapping_table.specs.declared.place.Where.TheVariants as where_is
 use Rattle.query_router.specs.{Desk.{DeskValue, is_waiting, verdict_of}, declared.part.Part.Part, declared.part.Verdict.Verdict}
@@ -14,12 +14,12 @@ use Rattle.query_router.specs.declared.part.Verdict.TheVariants as verdict
 use Rattle.row_ledger.specs.{declared.class.Subject.Subject, declared.event.Event.Event, declared.settings.Decline.Decline, declared.settings.Decline.TheVariants.Unknown}
 use Rattle.row_ledger.specs.declared.settings.How.TheVariants as how
 use Rattle.shard_plan.specs.declared.action.Load.{Load}
-use Rattle.shard_store.specs.declared.gate.Phase.{Phase}
-use Rattle.shard_store.specs.declared.gate.Phase.TheVariants as phase
-use Rattle.volap_cell.specs.{Cells.{desk_in, phase_of, where_in}, Commands.settles_next, Setting.{Setting, desk_cell, image_cell, map_cell}, Values.{ActorValue, BuildingValue, Builds, CollectingValue, Collects, IsCalled, IsDeclined, IsFrozen, JobValue, StageValue}, World.World, declared.command.Balance.Balance, declared.command.Work.Work, declared.kind.Kind.Kind, declared.role.Role.Role}
-use Rattle.volap_cell.specs.declared.command.Work.TheVariants as work_is
-use Rattle.volap_cell.specs.declared.kind.Kind.TheVariants as kind
-use Rattle.volap_cell.specs.declared.role.Role.TheVariants as role
+use Rattle.core_steps.specs.shard_store.specs.declared.gate.Phase.{Phase}
+use Rattle.core_steps.specs.shard_store.specs.declared.gate.Phase.TheVariants as phase
+use Rattle.core_steps.specs.volap_cell.specs.{Cells.{desk_in, phase_of, where_in}, Commands.settles_next, Setting.{Setting, desk_cell, image_cell, map_cell}, Values.{ActorValue, BuildingValue, Builds, CollectingValue, Collects, IsCalled, IsDeclined, IsFrozen, JobValue, StageValue}, World.World, declared.command.Balance.Balance, declared.command.Work.Work, declared.kind.Kind.Kind, declared.role.Role.Role}
+use Rattle.core_steps.specs.volap_cell.specs.declared.command.Work.TheVariants as work_is
+use Rattle.core_steps.specs.volap_cell.specs.declared.kind.Kind.TheVariants as kind
+use Rattle.core_steps.specs.volap_cell.specs.declared.role.Role.TheVariants as role
 
 -- Inserts and queries.
 

@@ -12,8 +12,8 @@ use Rattle.dim_hierarchy.specs.Dimension.{Dimension}
 use Rattle.row_ledger.specs.declared.class.Subject.{Subject}
 use Rattle.row_ledger.specs.declared.settings.How.{How}
 use Rattle.row_ledger.specs.declared.settings.How.TheVariants.{NoMemory}
-use Rattle.volap_cell.specs.{AdminKinds.HasJob, ImageKinds.doing, Setting.{Setting, map_cell}, State.Has, Steps.history_in, Values.{BuildingValue, Builds, JobValue, actor_of}, World.World, declared.command.Work.Work, declared.state.State.State}
-use Rattle.volap_cell.specs.declared.command.Work.TheVariants as work_is
+use Rattle.core_steps.specs.volap_cell.specs.{AdminKinds.HasJob, ImageKinds.doing, Setting.{Setting, map_cell}, State.Has, Steps.history_in, Values.{BuildingValue, Builds, JobValue, actor_of}, World.World, declared.command.Work.Work, declared.state.State.State}
+use Rattle.core_steps.specs.volap_cell.specs.declared.command.Work.TheVariants as work_is
 
 -- What its numbers tell: servers have numbers of one byte, and a byte counts the actions of a balance.
 

@@ -2,11 +2,11 @@
 ghost use Rattle.std.specs.{List.{list_any}, Prelude.{◌≡◌, [], false, IfSome, None}};
 ghost use Rattle.core_due.specs.{Awaited.{IsAwaited}, Due.{any_below}, Look.{cell_at, setting_by}};
 ghost use Rattle.query_router.specs.Desk.{waits_for};
-ghost use Rattle.volap_cell.specs.{Cells.{desk_in}, Setting.{desk_cell}};
+ghost use Rattle.core_steps.specs.volap_cell.specs.{Cells.{desk_in}, Setting.{desk_cell}};
 
 use crate::sights::{cell_at, desk_at};
+use core_steps::volap_cell::Cell;
 use row_ledger::Use;
-use volap_cell::Cell;
 
 /// Whether a part on the desk in a cell waits for the worker.
 fn is_awaited_at(cells: &[Option<Cell>], at: u32, worker: u8) -> bool

@@ -24,3 +24,7 @@ pub use spares::{last_spare, last_two};
 pub use splits::split_of;
 pub use work_laws::works_can_be_made;
 pub use works::{WorkDue, is_empty_at, parts_due, tell_bytes, waits_for_others, work_due};
+
+// What stands below is passed on.
+pub use core_steps;
+pub use core_steps::{link_descent, shard_store, volap_cell};

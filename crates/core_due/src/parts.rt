@@ -4,17 +4,17 @@ ghost use Rattle.core_due.specs.Due.{is_empty, led_to, may_enter};
 ghost use Rattle.core_due.specs.Look.{cell_at, setting_by, world_by};
 ghost use Rattle.core_due.specs.Parts.{carried_due, ending, gate_due, led_due, part_due, placed_due, read_due, row_due, unread_due};
 ghost use Rattle.core_due.specs.Wants.{last_noted};
-ghost use Rattle.volap_cell.specs.Cells.{GateCell, block_in};
-ghost use Rattle.volap_cell.specs.Setting.{map_cell};
-ghost use Rattle.volap_cell.specs.Values.{actor_of, errand_of, reading_of};
+ghost use Rattle.core_steps.specs.volap_cell.specs.Cells.{GateCell, block_in};
+ghost use Rattle.core_steps.specs.volap_cell.specs.Setting.{map_cell};
+ghost use Rattle.core_steps.specs.volap_cell.specs.Values.{actor_of, errand_of, reading_of};
 
 use crate::sights::{cell_at, desk_at, is_leaf_at, map_at, where_at};
+use core_steps::shard_store::{Gate, Phase};
+use core_steps::volap_cell::{Actor, Cell, Errand, Reading, Task, Way};
 use core_steps::{PartStep, TreeStep};
 use dc_node::Todo;
 use mapping_table::Where;
 use row_ledger::Use;
-use shard_store::{Gate, Phase};
-use volap_cell::{Actor, Cell, Errand, Reading, Task, Way};
 
 /// What is due for an actor that is at a part: a step with its cells, or one whose row's way is still to be
 /// picked.

@@ -2,13 +2,13 @@
 ghost use Rattle.std.specs.Prelude.{◌≡◌, ◌-◌, None, length, slice_get};
 ghost use Rattle.core_due.specs.Look.{cell_at, world_by};
 ghost use Rattle.core_due.specs.Reuses.{earlier, earlier_released, first_by, is_before, is_released, reuse_at, reuse_due, shard_in};
-ghost use Rattle.volap_cell.specs.Cells.{gone_in};
-ghost use Rattle.volap_cell.specs.Values.{actor_of};
+ghost use Rattle.core_steps.specs.volap_cell.specs.Cells.{gone_in};
+ghost use Rattle.core_steps.specs.volap_cell.specs.Values.{actor_of};
 
 use crate::sights::cell_at;
 use core_steps::ReuseStep;
-use shard_store::Phase;
-use volap_cell::{Actor, Cell, Role};
+use core_steps::shard_store::Phase;
+use core_steps::volap_cell::{Actor, Cell, Role};
 
 /// Whether the gate in a cell is gone, and no query is pinned to it.
 fn is_released(cells: &[Option<Cell>], at: u32) -> bool

@@ -6,18 +6,18 @@ ghost use Rattle.core_due.specs.Rows.{descent_of, down_by, down_for, entrance_of
 ghost use Rattle.core_due.specs.Spares.{last_spare};
 ghost use Rattle.dc_node.specs.Block.{IsBodyOf, entries_in, is_full};
 ghost use Rattle.dim_hierarchy.specs.Rows.{IsRowOf};
-ghost use Rattle.volap_cell.specs.Cells.{block_in};
-ghost use Rattle.volap_cell.specs.Values.{actor_of};
+ghost use Rattle.core_steps.specs.volap_cell.specs.Cells.{block_in};
+ghost use Rattle.core_steps.specs.volap_cell.specs.Values.{actor_of};
 
 use crate::sights::cell_at;
 use crate::spares::{last_spare, last_two};
 use cell_stock::Purse;
 use core_steps::RowStep;
+use core_steps::link_descent::pick;
+use core_steps::shard_store::Gate;
+use core_steps::volap_cell::{Actor, Cell, Task};
 use dc_node::{Block, Entry};
 use dim_hierarchy::{Hierarchy, Row};
-use link_descent::pick;
-use shard_store::Gate;
-use volap_cell::{Actor, Cell, Task};
 
 /// Whether the block in a cell is full; what isn't a block isn't.
 fn is_full_at(cells: &[Option<Cell>], at: u32) -> bool
@@ -97,7 +97,7 @@ fn down_by(cells: &[Option<Cell>], purse: &Purse, parent: u32, place: u8, entry:
 }
 
 /// The step down by the entry of the parent that comes first for the row.
-#[tactic(auto, unfolding(link_descent::specs::Pick::pick_place))]
+#[tactic(auto, unfolding(core_steps::link_descent::specs::Pick::pick_place))]
 fn down_from(
     h: &Hierarchy,
     cells: &[Option<Cell>],
@@ -120,7 +120,7 @@ fn down_from(
 }
 
 /// The step of the actor's row down from the block, if it has one.
-#[tactic(auto, unfolding(link_descent::specs::Pick::pick_place))]
+#[tactic(auto, unfolding(core_steps::link_descent::specs::Pick::pick_place))]
 fn down_at(
     h: &Hierarchy,
     cells: &[Option<Cell>],

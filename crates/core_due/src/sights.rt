@@ -2,14 +2,14 @@
 ghost use Rattle.std.specs.Prelude.{◌≡◌, [], option_copied, length};
 ghost use Rattle.dc_node.specs.Block.{is_leaf};
 ghost use Rattle.core_due.specs.Look.{cell_at, setting_by};
-ghost use Rattle.volap_cell.specs.Filling.{cell_or};
-ghost use Rattle.volap_cell.specs.Cells.{block_in, ledger_in, where_in};
-ghost use Rattle.volap_cell.specs.Setting.{desk_cell, ledger_cell, map_cell};
+ghost use Rattle.core_steps.specs.volap_cell.specs.Filling.{cell_or};
+ghost use Rattle.core_steps.specs.volap_cell.specs.Cells.{block_in, ledger_in, where_in};
+ghost use Rattle.core_steps.specs.volap_cell.specs.Setting.{desk_cell, ledger_cell, map_cell};
 
+use core_steps::volap_cell::Cell;
 use core_steps::{desk_place, ledger_place, map_place};
 use mapping_table::Where;
 use row_ledger::Use;
-use volap_cell::Cell;
 
 /// The cell of a server's desk, as it is seen.
 pub fn desk_at(with: &Use, server: u8) -> u32

@@ -6,19 +6,19 @@ ghost use Rattle.core_due.specs.Look.{cell_at, history_at, setting_by, waits_for
 ghost use Rattle.core_due.specs.Works as works;
 ghost use Rattle.core_due.specs.WorksReady.{AreBytes, most_in};
 ghost use Rattle.query_router.specs.Desk.{is_placed, is_refused};
-ghost use Rattle.volap_cell.specs.Cells.{desk_in, phase_of};
-ghost use Rattle.volap_cell.specs.Commands.{settles_next};
-ghost use Rattle.volap_cell.specs.Values.{actor_of, building_of, collecting_of, job_of};
+ghost use Rattle.core_steps.specs.volap_cell.specs.Cells.{desk_in, phase_of};
+ghost use Rattle.core_steps.specs.volap_cell.specs.Commands.{settles_next};
+ghost use Rattle.core_steps.specs.volap_cell.specs.Values.{actor_of, building_of, collecting_of, job_of};
 
 use crate::parts::last_noted;
 use crate::sights::{cell_at, desk_at, events, map_at, where_at};
+use core_steps::shard_store::Phase;
+use core_steps::volap_cell::{Actor, Balance, Building, Cell, Collecting, Job, Role, Stage, Work};
 use core_steps::{BookStep, JobStep, image_place};
 use mapping_table::Where;
 use query_router::{Desk, Part};
 use row_ledger::{Decline, How, Subject, Use};
 use shard_plan::Load;
-use shard_store::Phase;
-use volap_cell::{Actor, Balance, Building, Cell, Collecting, Job, Role, Stage, Work};
 
 /// What is due for an actor with an open command: a step with its cells, or what is still to be made for one.
 #[derive(Drop)]

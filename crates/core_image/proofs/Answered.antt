@@ -13,7 +13,7 @@ use Rattle.row_ledger.specs.{Bounds.{IsAllowed, known, may, must, numbers}, Past
 use Rattle.row_ledger.proofs.{Answering.All-acked_before, Descent.{comes_from-comparable, live-made}}
 use Rattle.list_words.proofs.{Elements.{Contains-map, Contains-nil, Contains-first}, Times.{times-append, same_is, times-contains, contains-times}}
 use Rattle.list_words.specs.Counts.{times}
-use Rattle.tree_shape.specs.Queries.{fits}
+use Rattle.volap_cell.specs.tree_shape.specs.Queries.{fits}
 use Rattle.volap_cell.specs.{Desking.{AreLinesApart, AreUnrelated}, Ghost.Ghost, Growing.table_of, Invariant.InvWith, Querying.{HoldsOr, IsCounted, IsEndOfPart, must_hold}, Setting.{Setting, site_in}, View.{View, view}, World.World}
 use Rattle.volap_cell.proofs.OneEvent.Known.{known-acked, older-rows}
 use Rattle.core_image.proofs.Images.Valid.{acked-placed, placed-number, placed-usable}

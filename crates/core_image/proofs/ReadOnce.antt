@@ -6,7 +6,7 @@ use Rattle.row_ledger.specs.{Laws.AscendFrom, Past.before, Right.{EachEvent, Sta
 use Rattle.row_ledger.proofs.{Descent.{comes_from-comparable, live-last, live-made}, SettledAnswer.EachEvent-before}
 use Rattle.list_words.proofs.{Elements.Contains-nil, Times.times-append, Truth.{on_bool, eqb-self}}
 use Rattle.list_words.specs.Counts.{same, times}
-use Rattle.tree_shape.specs.Shape.{numbers}
+use Rattle.volap_cell.specs.tree_shape.specs.Shape.{numbers}
 use Rattle.volap_cell.specs.{Growing.IsUnder, Setting.{Setting, site_in}, Working.IsReadLoad}
 use Rattle.core_image.proofs.Images.MadePaths.{comes-before}
 

@@ -31,3 +31,7 @@ pub use queries::begin_query;
 pub use routes::route;
 pub use shown::note_shown;
 pub use syncs::sync;
+
+// What stands below is passed on.
+pub use volap_cell;
+pub use volap_cell::{link_descent, shard_build, shard_store, tree_shape};

@@ -2,11 +2,11 @@
 use Rattle.std.proofs.{Common.{◌≡◌, ◌≢◌, ◌∙◌, ◌||◌, ◌<◌, ◌≤◌, ◌⊎◌, inl, inr, ℕ, Bool, true, cond, eqb, List, [], Option, Some, None, IsSome, refl, sym, ap, subst, arith}, lemmas.Bool.{false≢true, eqb-true, eqb-false, eq-eqb, or_right}, lemmas.Option.same_Some}
 use Rattle.cell_stock.specs.{Stock.cells_of, declared.purse.Spare.Spare}
 use Rattle.row_ledger.specs.Shards.{is_live}
-use Rattle.shard_store.specs.declared.gate.Phase.TheVariants.{Gone}
+use Rattle.core_tree.specs.shard_store.specs.declared.gate.Phase.TheVariants.{Gone}
 use Rattle.list_words.proofs.Truth.{on_bool, eqb-self}
 use Rattle.list_words.specs.Counts.{times}
-use Rattle.volap_cell.proofs.Histories.Standings.{live-on, standing}
-use Rattle.volap_cell.specs.{Cells.{CellValue, FreeCell, LedgerCell, StockCell, RegistryCell, ImageCell, DeskCell, MapCell, GateCell, BlockCell, TheStock, stock_in, tag_of}, Ghost.{Owner, NotOfStock, Unused, InPurse, AGate, InTree, InJob, Ghost, is_in_job, is_in_purse, is_unused}, Invariant.InvWith, Setting.{Setting, cell_count, first_stock_cell, stock_cell}, Stocking.spent_of, Values.JobValue, View.{View, view}}
+use Rattle.core_tree.specs.volap_cell.proofs.Histories.Standings.{live-on, standing}
+use Rattle.core_tree.specs.volap_cell.specs.{Cells.{CellValue, FreeCell, LedgerCell, StockCell, RegistryCell, ImageCell, DeskCell, MapCell, GateCell, BlockCell, TheStock, stock_in, tag_of}, Ghost.{Owner, NotOfStock, Unused, InPurse, AGate, InTree, InJob, Ghost, is_in_job, is_in_purse, is_unused}, Invariant.InvWith, Setting.{Setting, cell_count, first_stock_cell, stock_cell}, Stocking.spent_of, Values.JobValue, View.{View, view}}
 use Rattle.core_laws.specs.CellUse.{CellUseLaw, HasNoUse, HasOneUse, IsUsedOnce, uses}
 
 -- what is in the cell of the stock

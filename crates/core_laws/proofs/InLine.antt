@@ -2,8 +2,8 @@
 use Rattle.std.proofs.Common.{ℕ, List, subst}
 use Rattle.std.specs.Prelude.{IsTrue}
 use Rattle.row_ledger.specs.{Past.last_of, Shards.comes_from}
-use Rattle.volap_cell.proofs.Histories.Standings.{standing, in-one}
-use Rattle.volap_cell.specs.View.{view}
+use Rattle.core_tree.specs.volap_cell.proofs.Histories.Standings.{standing, in-one}
+use Rattle.core_tree.specs.volap_cell.specs.View.{view}
 use Rattle.core_laws.specs.Lines.{LineLaw}
 
 pub line-law : LineLaw

@@ -12,9 +12,9 @@ use Rattle.row_ledger.proofs.Descent.{comes_from-comparable, live-made}
 use Rattle.row_ledger.specs.{Past.{Query, insert_at, query_at}, Shards.comes_from, declared.event.Event.Event}
 use Rattle.list_words.proofs.{Times.same_is, Totals.total-append, Truth.on_bool}
 use Rattle.list_words.specs.Counts.{same, times, total}
-use Rattle.tree_shape.specs.{Queries.items_of, Shape.{Node, Shape, nodes}, Walks.{AreNoted, IsNoted, IsTail, Noted, beneath, pending, reach}}
-use Rattle.volap_cell.proofs.{Desks.Facts.with-parts, Histories.Beginnings.no-query, Histories.Standings.{in-one, standing}, OneEvent.Reads.{readers-take, taken-kept}, Promised.{has-counted, is-placed, pinned-whole, reads-same}}
-use Rattle.volap_cell.specs.{Desking.{AreLinesApart, AreUnrelated, IsAtPart, IsQueryState, IsTaken, IsWantOf}, Errands.{ReadPart, Taken}, Ghost.Ghost, Growing.IsUnder, Invariant.InvWith, Promises.{HasNotRead, IsAheadOf, IsInOne}, Querying.{IsCounted, IsEndOfPart, IsReading, IsWalk}, Setting.{Setting, site_in}, Stocking.cells_at, View.{View, view}, World.World}
+use Rattle.core_tree.specs.tree_shape.specs.{Queries.items_of, Shape.{Node, Shape, nodes}, Walks.{AreNoted, IsNoted, IsTail, Noted, beneath, pending, reach}}
+use Rattle.core_tree.specs.volap_cell.proofs.{Desks.Facts.with-parts, Histories.Beginnings.no-query, Histories.Standings.{in-one, standing}, OneEvent.Reads.{readers-take, taken-kept}, Promised.{has-counted, is-placed, pinned-whole, reads-same}}
+use Rattle.core_tree.specs.volap_cell.specs.{Desking.{AreLinesApart, AreUnrelated, IsAtPart, IsQueryState, IsTaken, IsWantOf}, Errands.{ReadPart, Taken}, Ghost.Ghost, Growing.IsUnder, Invariant.InvWith, Promises.{HasNotRead, IsAheadOf, IsInOne}, Querying.{IsCounted, IsEndOfPart, IsReading, IsWalk}, Setting.{Setting, site_in}, Stocking.cells_at, View.{View, view}, World.World}
 use Rattle.core_tree.proofs.Queries.Walkers.{rows-under}
 use Rattle.core_laws.specs.Meeting.{AddUp, HasRead, HasReadBy, IsBeneathPending, IsNotedAt, MeetLaw, MeetsOnce, NotedBlock, Pending, WholePart, agg_read, counted_for, heard}
 

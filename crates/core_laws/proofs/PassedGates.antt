@@ -4,9 +4,9 @@ use Rattle.std.specs.Prelude.{All, Contains}
 use Rattle.query_router.specs.{Desk.is_taken, declared.part.Part.Part, declared.part.PartState.PartState}
 use Rattle.query_router.specs.declared.part.PartState.TheVariants as state
 use Rattle.row_ledger.specs.Past.{Ack, Insert, acked, insert_at}
-use Rattle.volap_cell.proofs.Desks.Inserts.{taken-way}
-use Rattle.volap_cell.specs.{Desking.{IsInsertState, IsTaken}, Errands.{RowWay, has_passed}, Ghost.Ghost, Invariant.InvWith, Placing.{IsRouted, IsRowPart}, Setting.Setting, View.view, World.World, declared.command.Command.Command}
-use Rattle.volap_cell.specs.declared.command.Work.TheVariants as work_is
+use Rattle.core_tree.specs.volap_cell.proofs.Desks.Inserts.{taken-way}
+use Rattle.core_tree.specs.volap_cell.specs.{Desking.{IsInsertState, IsTaken}, Errands.{RowWay, has_passed}, Ghost.Ghost, Invariant.InvWith, Placing.{IsRouted, IsRowPart}, Setting.Setting, View.view, World.World, declared.command.Command.Command}
+use Rattle.core_tree.specs.volap_cell.specs.declared.command.Work.TheVariants as work_is
 
 -- the insert's part is placed on its desk
 pub record IsPlacedThere (s : Setting) (w : World) (r : ℕ) : Type 0 where

@@ -4,12 +4,12 @@ use Rattle.dim_hierarchy.specs.Dimension.{Dimension}
 use Rattle.row_ledger.specs.{LedgerValue.LedgerValue, Past.{acked, insert_at, insert_in}, declared.event.Event.Event}
 use Rattle.row_ledger.specs.declared.event.Event.TheVariants as event
 use Rattle.row_ledger.specs.declared.settings.How.TheVariants as how
-use Rattle.shard_store.specs.declared.gate.Gate.{Gate}
+use Rattle.core_tree.specs.shard_store.specs.declared.gate.Gate.{Gate}
 use Rattle.list_words.proofs.Each.{each-append}
 use Rattle.list_words.specs.Counts.{Each}
-use Rattle.volap_cell.proofs.{OneEvent.Older.insert-same, Views.Frames.AreAt}
-use Rattle.volap_cell.specs.{AdminKinds.{DoesFinishMove, DoesFinishSplit, Finishes, MovesIn, PushesBoth}, Cells.{CellValue, FreeCell, LedgerCell, StockCell, RegistryCell, ImageCell, DeskCell, MapCell, GateCell, BlockCell, OfStock, ledger_in, tag_of}, ImageKinds.Pushes, Values.{ActorValue, JobValue}, World.{Change, put}, declared.command.Work.Work}
-use Rattle.volap_cell.specs.declared.command.Work.TheVariants as work_is
+use Rattle.core_tree.specs.volap_cell.proofs.{OneEvent.Older.insert-same, Views.Frames.AreAt}
+use Rattle.core_tree.specs.volap_cell.specs.{AdminKinds.{DoesFinishMove, DoesFinishSplit, Finishes, MovesIn, PushesBoth}, Cells.{CellValue, FreeCell, LedgerCell, StockCell, RegistryCell, ImageCell, DeskCell, MapCell, GateCell, BlockCell, OfStock, ledger_in, tag_of}, ImageKinds.Pushes, Values.{ActorValue, JobValue}, World.{Change, put}, declared.command.Work.Work}
+use Rattle.core_tree.specs.volap_cell.specs.declared.command.Work.TheVariants as work_is
 
 -- no insert has begun, and no row was acknowledged
 pub record IsQuiet (before now : List Event) : Type 0 where

@@ -4,9 +4,9 @@ use Rattle.query_router.specs.Desk.{DeskValue}
 use Rattle.row_ledger.specs.Past.{Ack}
 use Rattle.std.specs.Prelude.{Contains, Option}
 use Rattle.list_words.proofs.Truth.{on_bool}
-use Rattle.volap_cell.proofs.{Cells.Spares.{move-blank, split-blank}, Histories.Standings.{standing, in-none, in-one}, Views.Admin.{view-finish_move, view-finish_split}}
-use Rattle.volap_cell.specs.{AdminKinds.{DoesFinishMove, DoesFinishSplit}, Errands.RowWay, Ghost.Ghost, Invariant.InvWith, Kinds.Does, Setting.{Setting, ledger_cell}, Steps.{Inv, Step}, Values.ActorValue, View.{View, row_or, view}, World.{Agrees, Change, World, after}, declared.kind.Kind.Kind}
-use Rattle.volap_cell.specs.declared.kind.Kind.TheVariants as kind
+use Rattle.core_tree.specs.volap_cell.proofs.{Cells.Spares.{move-blank, split-blank}, Histories.Standings.{standing, in-none, in-one}, Views.Admin.{view-finish_move, view-finish_split}}
+use Rattle.core_tree.specs.volap_cell.specs.{AdminKinds.{DoesFinishMove, DoesFinishSplit}, Errands.RowWay, Ghost.Ghost, Invariant.InvWith, Kinds.Does, Setting.{Setting, ledger_cell}, Steps.{Inv, Step}, Values.ActorValue, View.{View, row_or, view}, World.{Agrees, Change, World, after}, declared.kind.Kind.Kind}
+use Rattle.core_tree.specs.volap_cell.specs.declared.kind.Kind.TheVariants as kind
 use Rattle.core_laws.proofs.{PassedGates.{HasPassed, has-passed, is-seen}, QuietLedger.{IsQuiet, move-cells, quiet-at, split-cells}}
 use Rattle.core_laws.specs.Finishing.{FinishLaw, HaveSameRows, IsFinish}
 

@@ -2,9 +2,9 @@
 use Rattle.std.specs.Prelude.{ℕ, ◌≡◌, ◌≢◌, ◌==◌, ◌||◌, ◌<◌, ◌≤◌, ◌⊎◌, true, cond, List, [], Some, None}
 use Rattle.cell_stock.specs.Stock.{StockValue}
 use Rattle.row_ledger.specs.Shards.{is_live}
-use Rattle.shard_store.specs.declared.gate.Phase.TheVariants.{Gone}
+use Rattle.core_tree.specs.shard_store.specs.declared.gate.Phase.TheVariants.{Gone}
 use Rattle.list_words.specs.Counts.{times}
-use Rattle.volap_cell.specs.{Cells.StockCell, Promises.Standing, Setting.{Setting, cell_count, first_stock_cell, stock_cell}, Steps.Inv, View.{View, view}, World.World}
+use Rattle.core_tree.specs.volap_cell.specs.{Cells.StockCell, Promises.Standing, Setting.{Setting, cell_count, first_stock_cell, stock_cell}, Steps.Inv, View.{View, view}, World.World}
 
 -- how often a shard that stands uses a cell: once where it is the cell of the shard's gate or one of its tree, else not at all
 abbrev pub uses : (s : Setting) (v : View) → Standing s v → ℕ → ℕ → ℕ

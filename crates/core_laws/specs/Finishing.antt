@@ -1,7 +1,7 @@
 -- What a split or a move that is finished leaves as it was.
 use Rattle.std.specs.Prelude.{ℕ, ◌≡◌, ◌⊎◌}
-use Rattle.volap_cell.specs.{Promises.{IsInNone, IsInOne, Standing}, Setting.Setting, Steps.{Inv, Step}, View.{View, view}, World.World, declared.kind.Kind.Kind}
-use Rattle.volap_cell.specs.declared.kind.Kind.TheVariants as kind
+use Rattle.core_tree.specs.volap_cell.specs.{Promises.{IsInNone, IsInOne, Standing}, Setting.Setting, Steps.{Inv, Step}, View.{View, view}, World.World, declared.kind.Kind.Kind}
+use Rattle.core_tree.specs.volap_cell.specs.declared.kind.Kind.TheVariants as kind
 
 -- the kinds that finish a split or a move
 abbrev pub IsFinish : Kind → Type 0

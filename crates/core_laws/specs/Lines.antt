@@ -1,7 +1,7 @@
 -- Where a row is that was acknowledged.
 use Rattle.std.specs.Prelude.{ℕ, IsTrue, Contains}
 use Rattle.row_ledger.specs.{Past.{Ack, acked, last_of}, Shards.comes_from}
-use Rattle.volap_cell.specs.{Promises.{IsInOne, Standing}, Setting.Setting, Steps.Inv, View.view, World.World}
+use Rattle.core_tree.specs.volap_cell.specs.{Promises.{IsInOne, Standing}, Setting.Setting, Steps.Inv, View.view, World.World}
 
 -- It is in one shard that stands, once, and that shard is the last one of its path or comes from it.
 abbrev pub LineLaw : Type 0

@@ -6,8 +6,8 @@ use Rattle.query_router.specs.{Desk.is_refused, declared.part.Part.Part, declare
 use Rattle.query_router.specs.declared.part.PartState.TheVariants as state
 use Rattle.row_ledger.specs.Past.{Query, query_at}
 use Rattle.list_words.specs.Counts.{times}
-use Rattle.tree_shape.specs.{Shape.nodes, Trees.IsTree, Walks.{IsNoted, Noted, beneath}}
-use Rattle.volap_cell.specs.{Errands.{ReadPart, Taken}, Growing.table_of, Promises.{HasCounted, HasNotRead, IsAheadOf, Standing}, Setting.Setting, Steps.Inv, Stocking.cells_at, View.{View, view}, World.World}
+use Rattle.core_tree.specs.tree_shape.specs.{Shape.nodes, Trees.IsTree, Walks.{IsNoted, Noted, beneath}}
+use Rattle.core_tree.specs.volap_cell.specs.{Errands.{ReadPart, Taken}, Growing.table_of, Promises.{HasCounted, HasNotRead, IsAheadOf, Standing}, Setting.Setting, Steps.Inv, Stocking.cells_at, View.{View, view}, World.World}
 
 -- What was read.
 

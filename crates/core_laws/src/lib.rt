@@ -3,3 +3,6 @@
 #![tactic(auto)]
 
 pub mod laws;
+
+// What stands below is passed on.
+pub use core_tree::volap_cell;

@@ -3,13 +3,13 @@
 use Rattle.std.proofs.{Common.{ℕ, zero, suc, ◌≡◌, ◌+◌, ◌-◌, ◌<◌, ◌≤◌, Option, Some, true, cond, leb, List, [], ◌∷◌, ◌++◌, length, map, refl, sym, ap, ◌∙◌, subst, arith}, lemmas.Bool.{leb-false, leb-true}, lemmas.List.length-append}
 use Rattle.std.specs.List.{flat_map}
 use Rattle.dc_node.specs.{Block.{rows_in, entries_in}, declared.block.Block.Block, declared.entry.Entry.Entry}
-use Rattle.shard_store.specs.{Gate.root_entry, declared.gate.Gate.Gate}
-use Rattle.tree_shape.specs.{PageLines.{CellBlocks, group, group_entries}, Shape.{Table, Node, TreeCells, node_of, nodes, Shape, numbers}, Trees.{EntryOk, IsTree, lies}, Walks.{IsTail, noted_of}}
+use Rattle.core_image.specs.shard_store.specs.{Gate.root_entry, declared.gate.Gate.Gate}
+use Rattle.core_image.specs.tree_shape.specs.{PageLines.{CellBlocks, group, group_entries}, Shape.{Table, Node, TreeCells, node_of, nodes, Shape, numbers}, Trees.{EntryOk, IsTree, lies}, Walks.{IsTail, noted_of}}
 use Rattle.core_pages.specs.Still.{cells_with, IsStill}
 use Rattle.list_words.proofs.{Each.{each-made, each-flat, each-both}, Times.{each-times, split-at, times-split, same_is}, Totals.{total-none, total-flat, total-same, total-map}, Truth.on_bool}
 use Rattle.list_words.specs.Counts.{Each, same, times, total}
 use Rattle.core_pages.proofs.{Counts.{IsEntry, group-is, entries-ok, root-ok, rows-ok}, Listing.{leaf_rows, rows_at}, Numbers.times-flat}
-use Rattle.tree_shape.proofs.{Cutting.Divisions.{sums-high, sums-low, sums-out}, Reading.Queries.reach-low, Whole.Assembled.{node-block, node-gate}, Whole.Beneath.total-le, Whole.Totals.{entry-counted, reach-root}}
+use Rattle.core_image.specs.tree_shape.proofs.{Cutting.Divisions.{sums-high, sums-low, sums-out}, Reading.Queries.reach-low, Whole.Assembled.{node-block, node-gate}, Whole.Beneath.total-le, Whole.Totals.{entry-counted, reach-root}}
 
 -- walks along right links to one stamp are the same
 same-tail : (look : ℕ → Node) (stamp y : ℕ) (zs us : List ℕ) → IsTail look stamp y zs → IsTail look stamp y us → zs ≡ us

@@ -1,7 +1,7 @@
 -- Blocks of one kind.
 use Rattle.std.proofs.Common.{◌≡◌, true, false, length, refl}
 use Rattle.dc_node.specs.{Block.{rows_in, entries_in, is_leaf, size}, declared.block.Body.Body, declared.block.Body.TheVariants.{Rows, Entries}}
-use Rattle.tree_shape.specs.Trees.{limit}
+use Rattle.core_image.specs.tree_shape.specs.Trees.{limit}
 
 pub leaf-size : (body : Body) → is_leaf body ≡ true → size body ≡ length (rows_in body)
 leaf-size (Rows rows) h = refl

@@ -1,7 +1,7 @@
 -- The blocks of a walk by their cells.
 use Rattle.std.proofs.{Common.{ℕ, zero, suc, ◌≡◌, ◌≢◌, ◌<◌, Some, None, List, [], ◌∷◌, length, map, refl, sym, ap, ◌∙◌, arith}, lemmas.Bool.{eq-eqb, ne_eqb}}
 use Rattle.list_words.specs.Counts.{Each}
-use Rattle.tree_shape.specs.{PageLines.{linked, block_after, walk, CellBlocks}, Shape.{Node, node_of}, Walks.IsTail}
+use Rattle.core_image.specs.tree_shape.specs.{PageLines.{linked, block_after, walk, CellBlocks}, Shape.{Node, node_of}, Walks.IsTail}
 use Rattle.core_pages.proofs.Walks.{walk-none}
 
 -- a tree sees the block that is in the cell

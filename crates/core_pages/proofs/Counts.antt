@@ -3,11 +3,11 @@ use Rattle.std.proofs.Common.{ℕ, zero, suc, ◌≡◌, ◌≢◌, ◌+◌, ◌
 use Rattle.std.specs.List.{flat_map}
 use Rattle.dim_hierarchy.specs.declared.row.Row.{Row}
 use Rattle.dc_node.specs.{Block.{rows_in, entries_in}, declared.block.Block.Block, declared.entry.Entry.Entry}
-use Rattle.shard_store.specs.{Gate.root_entry, declared.gate.Gate.Gate}
+use Rattle.core_image.specs.shard_store.specs.{Gate.root_entry, declared.gate.Gate.Gate}
 use Rattle.list_words.specs.Counts.{Each, same, times, total}
 use Rattle.list_words.proofs.{Each.{each-map, each-flat, each-made}, Times.{same_is, length-few, each-times}, Totals.{total-map, total-flat, total-same, total-none}, Truth.on_bool}
-use Rattle.tree_shape.specs.{PageLines.{CellBlocks, group, group_entries}, Shape.{Table, Node, TreeCells, nodes, Shape, numbers}, Trees.{EntryOk, BlockOk, lies}, Walks.noted_of}
-use Rattle.tree_shape.proofs.{Cutting.Divisions.{sums-low, sums-out}, Reading.Queries.reach-low, Whole.Assembled.{node-block, node-gate}}
+use Rattle.core_image.specs.tree_shape.specs.{PageLines.{CellBlocks, group, group_entries}, Shape.{Table, Node, TreeCells, nodes, Shape, numbers}, Trees.{EntryOk, BlockOk, lies}, Walks.noted_of}
+use Rattle.core_image.specs.tree_shape.proofs.{Cutting.Divisions.{sums-low, sums-out}, Reading.Queries.reach-low, Whole.Assembled.{node-block, node-gate}}
 use Rattle.core_pages.specs.Still.{cells_with, IsStill}
 use Rattle.core_pages.proofs.{CellWalks.{IsSeen, walk-cells}, Listing.{leaf_rows, rows_at}, Numbers.times-flat}
 

@@ -4,7 +4,7 @@ use Rattle.std.specs.List.{flat_map}
 use Rattle.dim_hierarchy.specs.declared.row.Row.{Row}
 use Rattle.dc_node.specs.{Block.rows_in, declared.entry.Entry.Entry}
 use Rattle.row_ledger.specs.{Pages.{Groups, none, leaf, directory, tops, listing, rows_beneath}, declared.page.NodeLine.NodeLine}
-use Rattle.tree_shape.specs.PageLines.{CellBlocks, group, group_entries, group_line, lines}
+use Rattle.core_image.specs.tree_shape.specs.PageLines.{CellBlocks, group, group_entries, group_line, lines}
 
 -- the rows of a group's blocks
 abbrev pub leaf_rows : CellBlocks → Entry → List Row

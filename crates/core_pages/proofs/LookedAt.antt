@@ -2,9 +2,9 @@
 use Rattle.std.proofs.{Common.{ℕ, ◌≡◌, ◌≢◌, ◌<◌, ◌≤◌, true, false, List, length, Option, Some, None, get_or, inl, inr, refl, sym, ap, ◌∙◌, subst}, lemmas.Bool.{cases_lt, lt-ltb, le-ltb}, lemmas.List.get_or_past}
 use Rattle.std.specs.Prelude.{IsSome, is_some, option_map}
 use Rattle.dim_hierarchy.specs.Dimension.{Dimension}
-use Rattle.volap_cell.specs.{Cells.{CellValue, FreeCell, cell_of}, State.{Has, HasInv, IsWorldOf}, Values.actor_of, World.World, declared.actor.Actor.Actor, declared.cell.Cell.Cell}
+use Rattle.core_image.specs.volap_cell.specs.{Cells.{CellValue, FreeCell, cell_of}, State.{Has, HasInv, IsWorldOf}, Values.actor_of, World.World, declared.actor.Actor.Actor, declared.cell.Cell.Cell}
 use Rattle.core_pages.specs.Looks.{HasCells, IsActorOf, IsSeenOf, IsValid, cells_in, or_free, state_of}
-use Rattle.volap_cell.proofs.Cells.States.{is-some, stands}
+use Rattle.core_image.specs.volap_cell.proofs.Cells.States.{is-some, stands}
 
 -- where anything is seen but a free cell, a cell stands
 pub there-unless : (o : Option CellValue) → or_free o ≢ FreeCell → IsSome o

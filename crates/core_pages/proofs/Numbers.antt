@@ -4,8 +4,8 @@ use Rattle.std.specs.{List.flat_map, Prelude.IsPermutation}
 use Rattle.dim_hierarchy.specs.declared.row.Row.{Row}
 use Rattle.list_words.specs.Counts.{Each, times, total}
 use Rattle.list_words.proofs.Times.{same_is, times-append, split-at, times-split}
-use Rattle.tree_shape.specs.Shape.{Table, numbers}
-use Rattle.tree_shape.proofs.Whole.Sums.{rows-named}
+use Rattle.core_image.specs.tree_shape.specs.Shape.{Table, numbers}
+use Rattle.core_image.specs.tree_shape.proofs.Whole.Sums.{rows-named}
 
 pub perm-numbers : (find : ℕ → Row) (ns ms : List ℕ) → ((r : ℕ) → times r ns ≡ times r ms) → IsPermutation (map find ns) (map find ms)
 perm-numbers find [] [] h = IsPermutation-refl []

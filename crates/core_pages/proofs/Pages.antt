@@ -4,12 +4,12 @@ use Rattle.std.specs.Prelude.{IsPermutation}
 use Rattle.measure_agg.specs.Aggregate.{Aggregate, agg}
 use Rattle.describing_set.specs.DescSet.{IsSetOf}
 use Rattle.dc_node.specs.{Block.{rows_in, entries_in, is_leaf, size}, Summary.coords, declared.block.Block.Block, declared.entry.Entry.Entry}
-use Rattle.shard_store.specs.{Gate.root_entry, declared.gate.Gate.Gate}
+use Rattle.core_image.specs.shard_store.specs.{Gate.root_entry, declared.gate.Gate.Gate}
 use Rattle.row_ledger.specs.{Pages.{Groups, none, IsLeafGroup, IsDirectoryGroup, AreGroups, IsPageOf}, declared.page.NodeLine.NodeLine, declared.page.TreePage.TreePage}
 use Rattle.list_words.specs.Counts.{Each, times}
 use Rattle.list_words.proofs.{Each.each-made, Totals.{length-flat, total-same, total-few, total-some}}
-use Rattle.tree_shape.specs.{Laws.{OrderLaw, GateLaw}, PageLines.{CellBlocks, group, group_entries, group_line, lines}, Shape.{Table, Shape, numbers}}
-use Rattle.tree_shape.proofs.Whole.Sums.{rows-named}
+use Rattle.core_image.specs.tree_shape.specs.{Laws.{OrderLaw, GateLaw}, PageLines.{CellBlocks, group, group_entries, group_line, lines}, Shape.{Table, Shape, numbers}}
+use Rattle.core_image.specs.tree_shape.proofs.Whole.Sums.{rows-named}
 use Rattle.core_pages.specs.Still.{IsStill, ShowsTree, cells_with, page_without_lines}
 use Rattle.core_pages.proofs.{Bodies.{leaf-size, leaf-limit, directory-size, directory-limit}, Counts.{IsOn, IsEntry, block-ok, on-level, group-some, group-is, entries-ok, root-ok, root-times, rows-ok, named-ok}, Listing.{leaf_rows, rows_at, all_groups, grouped, listing-one, rows-one, rows-beneath, tops-one, tops-all}, Numbers.perm-rows}
 

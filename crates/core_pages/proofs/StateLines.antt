@@ -8,10 +8,10 @@ use Rattle.dim_hierarchy.specs.{Dimension.Dimension, declared.row.Row.Row}
 use Rattle.measure_agg.specs.{Aggregate.{Aggregate, agg}, Joining.join}
 use Rattle.measure_agg.proofs.AggLaws.{agg-append}
 use Rattle.row_ledger.specs.{Listings.places_of, Shards.{Place, is_of}, Workers.is_on, declared.page.ShardLine.ShardLine}
-use Rattle.shard_store.specs.declared.gate.Gate.{Gate}
+use Rattle.core_image.specs.shard_store.specs.declared.gate.Gate.{Gate}
 use Rattle.list_words.specs.Counts.{Among, Each}
 use Rattle.list_words.proofs.Each.{each-here}
-use Rattle.volap_cell.specs.{Cells.{CellValue, OfStock, TheRegistry, tag_of}, Ghost.Ghost, Invariant.InvWith, Setting.{Setting, registry_cell}, Sights.{HasAll, HasRows, SeesLine}, View.{View, view}, World.World}
+use Rattle.core_image.specs.volap_cell.specs.{Cells.{CellValue, OfStock, TheRegistry, tag_of}, Ghost.Ghost, Invariant.InvWith, Setting.{Setting, registry_cell}, Sights.{HasAll, HasRows, SeesLine}, View.{View, view}, World.World}
 use Rattle.core_pages.specs.{Looks.{IsValid, StateValue, cells_in, gate_in, gate_there}, Seen.{AreSeenIn, CanSee, IsQuiet, IsQuietIn}, Shards.{CanLead, HasGate, HasGateAt, HasLine, IsGateAt, IsLineOf, agg_of_gate, frontier_in, gate_of, gate_place}}
 use Rattle.core_pages.proofs.{LookedAt.there-unless, StateTrees.{has-rows, queue-is, tree-sums, tree_rows}}
 

@@ -9,7 +9,7 @@ use Rattle.measure_agg.specs.{Aggregate.{Aggregate, agg}, Joining.join}
 use Rattle.measure_agg.proofs.AggLaws.{agg-append, join_associative, join_empty_left, join_empty_right}
 use Rattle.row_ledger.specs.declared.page.AuditLine.{AuditLine}
 use Rattle.list_words.specs.Counts.{Each}
-use Rattle.volap_cell.specs.{Cells.CellValue, Ghost.Ghost, Invariant.InvWith, Setting.Setting, Sights.{HasAll, SeesAudit}, Steps.Inv, View.{View, view}, World.World}
+use Rattle.core_image.specs.volap_cell.specs.{Cells.CellValue, Ghost.Ghost, Invariant.InvWith, Setting.Setting, Sights.{HasAll, SeesAudit}, Steps.Inv, View.{View, view}, World.World}
 use Rattle.core_pages.specs.{Looks.{IsSeenOf, IsValid, StateValue, cells_in}, Seen.{IsAuditedIn, IsQuietIn}, Shards.{agg_of_gate, agg_of_spots, frontier_in, gate_of}}
 use Rattle.core_image.proofs.Pages.RowsDivided.{few-rows}
 use Rattle.core_pages.proofs.StateLines.{IsThere, all-there, its-part}

@@ -4,12 +4,12 @@ use Rattle.std.specs.Prelude.{IsSome}
 use Rattle.dim_hierarchy.specs.{Dimension.Dimension, declared.row.Row.Row}
 use Rattle.dc_node.specs.Summary.{IsSummaryOf}
 use Rattle.row_ledger.specs.declared.page.TreePage.{TreePage}
-use Rattle.shard_store.specs.{Gate.{IsQueueOf, root_entry}, declared.gate.Gate.Gate, declared.gate.Phase.Phase}
+use Rattle.core_image.specs.shard_store.specs.{Gate.{IsQueueOf, root_entry}, declared.gate.Gate.Gate, declared.gate.Phase.Phase}
 use Rattle.list_words.proofs.{Each.each-made, Times.each-times, Truth.on_bool}
 use Rattle.list_words.specs.Counts.{Each, times}
-use Rattle.tree_shape.specs.{PageLines.{CellBlocks, lines}, Shape.{Shape, Table, TreeCells, numbers}, Trees.IsTree}
-use Rattle.tree_shape.proofs.Whole.Totals.{gate-sum}
-use Rattle.volap_cell.specs.{Cells.{CellValue, FreeCell, LedgerCell, StockCell, RegistryCell, ImageCell, DeskCell, MapCell, GateCell, BlockCell, gate_shard, phase_of, queue_in, way_in, way_to_tree}, Errands.{RowWay, way_of}, Ghost.{Ghost, NotOfStock, AGate, InTree}, Growing.table_of, Invariant.InvWith, Setting.Setting, Sights.{HasRows, SeesTree, blocks_seen}, Stocking.{IsWhole, cells_at}, View.{View, view}, World.World}
+use Rattle.core_image.specs.tree_shape.specs.{PageLines.{CellBlocks, lines}, Shape.{Shape, Table, TreeCells, numbers}, Trees.IsTree}
+use Rattle.core_image.specs.tree_shape.proofs.Whole.Totals.{gate-sum}
+use Rattle.core_image.specs.volap_cell.specs.{Cells.{CellValue, FreeCell, LedgerCell, StockCell, RegistryCell, ImageCell, DeskCell, MapCell, GateCell, BlockCell, gate_shard, phase_of, queue_in, way_in, way_to_tree}, Errands.{RowWay, way_of}, Ghost.{Ghost, NotOfStock, AGate, InTree}, Growing.table_of, Invariant.InvWith, Setting.Setting, Sights.{HasRows, SeesTree, blocks_seen}, Stocking.{IsWhole, cells_at}, View.{View, view}, World.World}
 use Rattle.core_pages.specs.{Looks.{IsValid, StateValue, blocks_of, cells_in, gate_in}, Seen.{CanSee, CanSeeIn, IsOfGate, IsSeenIn}, Still.{IsStill, ShowsTree, cells_with}}
 use Rattle.core_pages.proofs.{AnyShape.same-placed, Counts.root-times}
 

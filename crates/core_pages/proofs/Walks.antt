@@ -3,7 +3,7 @@ use Rattle.std.proofs.{Common.{ℕ, zero, suc, ◌≡◌, ◌+◌, Option, Some,
 use Rattle.std.specs.List.{flat_map}
 use Rattle.dc_node.specs.{declared.block.Block.Block, declared.entry.Entry.Entry}
 use Rattle.row_ledger.specs.declared.page.NodeLine.{NodeLine}
-use Rattle.tree_shape.specs.PageLines.{CellBlocks, block_after, walk, group_line, lines, group, group_entries, linked}
+use Rattle.core_image.specs.tree_shape.specs.PageLines.{CellBlocks, block_after, walk, group_line, lines, group, group_entries, linked}
 use Rattle.core_pages.specs.Blocks.{next_of}
 
 pub walk-none : (blocks : CellBlocks) (stamp n : ℕ) → walk blocks stamp n None ≡ []

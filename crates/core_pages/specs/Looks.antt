@@ -3,9 +3,9 @@ use Rattle.std.specs.Prelude.{ℕ, ◌≡◌, ltb, List, get_or, Option, Some, N
 use Rattle.dim_hierarchy.specs.Dimension.{Dimension}
 use Rattle.mapping_table.specs.declared.place.Where.{Where}
 use Rattle.mapping_table.specs.declared.place.Where.TheVariants as where_is
-use Rattle.shard_store.specs.declared.gate.Gate.{Gate}
-use Rattle.tree_shape.specs.PageLines.{CellBlocks}
-use Rattle.volap_cell.specs.{Cells.{CellValue, FreeCell, GateCell, block_in, cell_of, no_way}, Opening.IsFresh, Setting.Setting, Steps.Inv, Values.{ActorValue, actor_of}, World.World, declared.actor.Actor.Actor, declared.cell.Cell.Cell}
+use Rattle.core_image.specs.shard_store.specs.declared.gate.Gate.{Gate}
+use Rattle.core_image.specs.tree_shape.specs.PageLines.{CellBlocks}
+use Rattle.core_image.specs.volap_cell.specs.{Cells.{CellValue, FreeCell, GateCell, block_in, cell_of, no_way}, Opening.IsFresh, Setting.Setting, Steps.Inv, Values.{ActorValue, actor_of}, World.World, declared.actor.Actor.Actor, declared.cell.Cell.Cell}
 
 -- what stands in each cell, and each actor; nothing where it is out, and nothing past the last one
 pub record StateValue : Type 0 where

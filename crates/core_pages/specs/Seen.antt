@@ -3,8 +3,8 @@ use Rattle.std.specs.Prelude.{ℕ, ◌≡◌, ◌≢◌, List, Some, None, IsSom
 use Rattle.dim_hierarchy.specs.Dimension.{Dimension}
 use Rattle.row_ledger.specs.{declared.page.AuditLine.AuditLine, declared.page.ShardLine.ShardLine, declared.page.TreePage.TreePage}
 use Rattle.row_ledger.specs.declared.page.Page.TheVariants as page
-use Rattle.shard_store.specs.declared.gate.Phase.TheVariants.{Gone}
-use Rattle.volap_cell.specs.{Cells.{gate_shard, phase_of}, Setting.{Setting, cell_count}, Sights.{SeesPage, SeesTree}, Steps.Inv, View.view, World.World}
+use Rattle.core_image.specs.shard_store.specs.declared.gate.Phase.TheVariants.{Gone}
+use Rattle.core_image.specs.volap_cell.specs.{Cells.{gate_shard, phase_of}, Setting.{Setting, cell_count}, Sights.{SeesPage, SeesTree}, Steps.Inv, View.view, World.World}
 use Rattle.core_pages.specs.Looks.{IsSeenOf, StateValue, cells_in}
 
 -- the cell has the gate of a shard that stands, and nobody is at a part

@@ -5,8 +5,8 @@ use Rattle.describing_set.specs.{Sets.{IsDescSetOf, JoinsTo}, declared.listing.S
 use Rattle.dim_hierarchy.specs.Dimension.{Dimension}
 use Rattle.measure_agg.specs.{Aggregate.Aggregate, Joining.join}
 use Rattle.row_ledger.specs.declared.page.ShardLine.{ShardLine}
-use Rattle.shard_store.specs.declared.gate.Gate.{Gate}
-use Rattle.volap_cell.specs.{Cells.{CellValue, gate_shard, registry_in, where_in}, Setting.registry_cell}
+use Rattle.core_image.specs.shard_store.specs.declared.gate.Gate.{Gate}
+use Rattle.core_image.specs.volap_cell.specs.{Cells.{CellValue, gate_shard, registry_in, where_in}, Setting.registry_cell}
 use Rattle.core_pages.specs.Looks.{StateValue, cells_in, gate_in, gate_there}
 
 -- the spots of the registry

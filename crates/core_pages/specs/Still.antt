@@ -2,8 +2,8 @@
 use Rattle.std.specs.Prelude.{ℕ, ◌≡◌, ◌-◌, ◌<◌, true, false, cond, List, [], map, length}
 use Rattle.list_words.specs.Counts.{times}
 use Rattle.row_ledger.specs.{Pages.IsPageOf, declared.page.TreePage.TreePage}
-use Rattle.shard_store.specs.{Gate.root_entry, declared.gate.Gate.Gate}
-use Rattle.tree_shape.specs.{PageLines.{CellBlocks, lines}, Shape.{Table, TreeCells, Shape}, Trees.IsTree}
+use Rattle.core_image.specs.shard_store.specs.{Gate.root_entry, declared.gate.Gate.Gate}
+use Rattle.core_image.specs.tree_shape.specs.{PageLines.{CellBlocks, lines}, Shape.{Table, TreeCells, Shape}, Trees.IsTree}
 
 abbrev pub cells_with : ℕ → Gate → CellBlocks → TreeCells
 cells_with home gate blocks = record { gate_cell = home; gate = gate; block = blocks.block }

@@ -5,13 +5,13 @@ ghost use Rattle.core_pages.specs.Seen.{IsAuditedIn, IsQuietIn};
 ghost use Rattle.core_pages.specs.Shards.{agg_of_gate};
 ghost use Rattle.dim_hierarchy.specs.Dimension.{Dimension};
 ghost use Rattle.measure_agg.specs.Joining.{join};
-ghost use Rattle.volap_cell.specs.Cells.{gate_shard};
+ghost use Rattle.core_image.specs.volap_cell.specs.Cells.{gate_shard};
 
 use crate::leads::{led_at, spot_count};
 use crate::looks::Cells;
+use core_image::volap_cell::Cell;
 use measure_agg::Agg;
 use row_ledger::AuditLine;
-use volap_cell::Cell;
 
 /// An aggregate, joined with that of the rows of the gate in a cell: those in its tree, and those in its queue.
 fn joined_at<C: Cells>(cells: &mut C, at: u32, agg: &Agg) -> Agg

@@ -3,14 +3,14 @@ ghost use Rattle.std.specs.Prelude.{◌≡◌, ◌<◌, ◌^◌, ◌++◌, lengt
 ghost use Rattle.std.specs.List.{flat_map};
 ghost use Rattle.dc_node.specs.Block.{entries_in, size};
 ghost use Rattle.list_words.specs.Counts.{total};
-ghost use Rattle.tree_shape.specs.PageLines.{group};
+ghost use Rattle.core_image.specs.tree_shape.specs.PageLines.{group};
 ghost use Rattle.core_pages.specs.Blocks.{IsNoteOf, next_of};
 ghost use Rattle.core_pages.specs.Looks.{HasCells, blocks_of, cells_in};
 
 use crate::looks::Cells;
+use core_image::volap_cell::Cell;
 use dc_node::{Block, Body, Entry};
 use std::alloc::{AllocError, Global};
-use volap_cell::Cell;
 
 /// What a walk keeps of each block.
 pub(crate) trait Keep {

@@ -2,13 +2,13 @@
 ghost use Rattle.std.specs.Prelude.{◌≡◌, ◌<◌, Some, IsSome, length, slice_get};
 ghost use Rattle.core_pages.specs.Looks.{cells_in};
 ghost use Rattle.core_pages.specs.Shards.{CanLead, frontier_in, gate_place, table_place};
-ghost use Rattle.volap_cell.specs.Cells.{where_in};
-ghost use Rattle.volap_cell.specs.Setting.{registry_cell};
+ghost use Rattle.core_image.specs.volap_cell.specs.Cells.{where_in};
+ghost use Rattle.core_image.specs.volap_cell.specs.Setting.{registry_cell};
 
 use crate::looks::Cells;
+use core_image::volap_cell::Cell;
 use describing_set::Spot;
 use mapping_table::Where;
-use volap_cell::Cell;
 
 /// How many spots the registry has.
 pub(crate) fn spot_count<C: Cells>(cells: &mut C) -> usize

@@ -14,3 +14,6 @@ pub use looks::{Cells, Lent};
 pub use shards::shards_page;
 pub use trees::tree_page_at;
 pub use walk::page_of;
+
+// What stands below is passed on.
+pub use core_image::{link_descent, shard_build, shard_store, tree_shape, volap_cell};

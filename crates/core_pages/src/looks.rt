@@ -2,9 +2,9 @@
 ghost use Rattle.std.specs.Prelude.{◌≡◌, Some, IsSome};
 ghost use Rattle.std.specs.Borrow.{sem};
 ghost use Rattle.std.specs.Io.BufRead.{Rests};
-ghost use Rattle.volap_cell.specs.Cells.{cell_of};
+ghost use Rattle.core_image.specs.volap_cell.specs.Cells.{cell_of};
 
-use volap_cell::{Cell, State};
+use core_image::volap_cell::{Cell, State};
 
 /// A state as one reads it who looks at one cell at a time. What is lent is given back when the next
 /// cell is looked at.

@@ -6,11 +6,11 @@ ghost use Rattle.core_pages.specs.Shards.{HasGateAt, IsLineOf};
 
 use crate::leads::{led_at, spot_count};
 use crate::looks::Cells;
+use core_image::volap_cell::Cell;
 use describing_set::Spot;
 use dim_hierarchy::Hierarchy;
 use row_ledger::{ShardLine, ShardList};
 use std::alloc::{AllocError, Global};
-use volap_cell::Cell;
 
 /// The line of a spot, by the gate in a cell: how many rows it has in the tree and in the queue, and the
 /// set of them all.

@@ -3,17 +3,17 @@ ghost use Rattle.std.specs.Prelude.{◌≡◌, ◌+◌, ◌<◌, ◌^◌, ◌++�
 ghost use Rattle.std.specs.List.{flat_map};
 ghost use Rattle.core_pages.specs.Looks.{HasCells, blocks_of, cells_in, gate_in};
 ghost use Rattle.core_pages.specs.Still.{ShowsTree, page_without_lines};
-ghost use Rattle.shard_store.specs.Gate.{root_entry};
-ghost use Rattle.tree_shape.specs.PageLines.{lines};
-ghost use Rattle.volap_cell.specs.Cells.{gate_shard};
+ghost use Rattle.core_image.specs.shard_store.specs.Gate.{root_entry};
+ghost use Rattle.core_image.specs.tree_shape.specs.PageLines.{lines};
+ghost use Rattle.core_image.specs.volap_cell.specs.Cells.{gate_shard};
 
 use crate::group::{Entries, group_of};
 use crate::looks::Cells;
+use core_image::tree_shape::tree_laws;
+use core_image::volap_cell::Cell;
 use dc_node::Entry;
 use row_ledger::{NodeLine, NodeList, TreePage};
 use std::alloc::{AllocError, Global};
-use tree_shape::tree_laws;
-use volap_cell::Cell;
 
 /// The page of the gate in a cell without its lines, and the entry of its root. Takes no memory.
 fn top_of<C: Cells>(alloc: Global, cells: &mut C, gate_at: u32) -> (TreePage, Entry)

@@ -5,8 +5,8 @@ use Rattle.dc_node.specs.declared.todo.Item.{Item}
 use Rattle.query_router.specs.{Desk.{is_open, is_taken, is_with, state_is_taken, state_waits}, declared.part.Part.Part, declared.part.PartState.PartState}
 use Rattle.row_ledger.specs.{Past.{Insert, Query, insert_at, last_of, query_at}, Shards.is_path, declared.event.Event.Event}
 use Rattle.list_words.specs.Counts.{times}
-use Rattle.tree_shape.specs.{Queries.{IsUnfinished, fits}, Shape.nodes}
-use Rattle.tree_shape.proofs.Down.Rows.{after-all}
+use Rattle.volap_cell.specs.tree_shape.specs.{Queries.{IsUnfinished, fits}, Shape.nodes}
+use Rattle.volap_cell.specs.tree_shape.proofs.Down.Rows.{after-all}
 use Rattle.volap_cell.specs.{Desking.{IsInsertState, IsQueryPart, IsQueryState}, Errands.{Outside, ReadPart, RowWay, has_passed, place_of, read_in_task, taken_by, way_in_task}, Ghost.Ghost, Growing.table_of, Invariant.InvWith, Placing.{IsLead, IsRowPart}, Querying.{IsEndOfPart, IsInTreeOf, IsReading, IsWalk, must_hold}, Setting.Setting, ShardKinds.{IsOutcome, path_in, path_left}, Stocking.cells_at, Values.{ErrandValue, OfRow, Read, ReadingValue, TaskValue, Unread}, View.View, declared.errand.Way.Way}
 use Rattle.volap_cell.specs.declared.errand.Way.TheVariants as way
 use Rattle.volap_cell.proofs.Views.Fields.{IsNewAt}

@@ -4,7 +4,7 @@ use Rattle.std.specs.{List.position_or_len, Prelude.{IsSome, position, slice_set
 use Rattle.dim_hierarchy.specs.Dimension.{Dimension}
 use Rattle.query_router.specs.{Desk.{DeskValue, is_with}, declared.part.Part.Part}
 use Rattle.query_router.specs.declared.part.PartState.TheVariants as state
-use Rattle.shard_store.specs.declared.gate.Gate.{Gate}
+use Rattle.volap_cell.specs.shard_store.specs.declared.gate.Gate.{Gate}
 use Rattle.list_words.proofs.{Each.each-right, Truth.eqb-self}
 use Rattle.volap_cell.specs.{Cells.{CellValue, DeskCell, DeskOf, GateCell, gate_shard, pins_in, tag_of}, Desking.IsAtPart, Errands.{ReadPart, read_in_task, read_of, taken_by, taken_of}, Querying.{one_pin, pins_of}, Setting.{Setting, actor_count}, ShardKinds.{DoesFinishPart, Unpins, path_left, pin_of}, Steps.{IsHere, Makes}, Values.{ActorValue, OfRow, Read, TaskValue, Unread}, View.{View, view}, World.{Agrees, Change, World, change, change_if, held, held_if}, declared.errand.RowErrand.RowErrand, declared.errand.Way.Way, declared.kind.Kind.TheVariants.FinishPart}
 use Rattle.volap_cell.specs.declared.errand.Way.TheVariants as way

@@ -5,7 +5,7 @@ use Rattle.dim_hierarchy.specs.Dimension.{Dimension}
 use Rattle.query_router.specs.{Desk.{DeskValue, state_is_taken}, declared.part.Part.Part, declared.part.PartState.PartState}
 use Rattle.query_router.specs.declared.part.PartState.TheVariants as state
 use Rattle.row_ledger.specs.declared.event.Event.{Event}
-use Rattle.shard_store.specs.declared.gate.Gate.{Gate}
+use Rattle.volap_cell.specs.shard_store.specs.declared.gate.Gate.{Gate}
 use Rattle.list_words.proofs.Truth.{on_bool, eqb-self}
 use Rattle.volap_cell.specs.{Errands.{Outside, RowWay, gate_entered, place_of, row_way, way_in_task}, Falls.{GoesOn, far, gates_of_errand, gates_of_part, gates_of_state, gates_of_task, gates_of_way, left, one_if_any, per_query, queries_of_errand, queries_of_state, queries_of_task, rows_of_errand, rows_of_part, rows_of_task, rows_of_way}, Ghost.Ghost, Invariant.InvWith, Querying.one_pin, Setting.{Setting, actor_count}, ShardKinds.{DoesFinishPart, IsOutcome, Unpins, path_in, pin_of}, Steps.{IsKept, Keeps}, Values.{ActorValue, ErrandValue, OfRow, Read, TaskValue, Unread}, View.{View, view}, World.{World, Change, Agrees, after}, declared.errand.Way.Way, declared.kind.Kind.TheVariants.FinishPart}
 use Rattle.volap_cell.specs.declared.errand.Way.TheVariants as way

@@ -5,7 +5,7 @@ use Rattle.query_router.specs.{Desk.{DeskValue, is_open, is_refused, is_taken, i
 use Rattle.query_router.specs.declared.part.PartState.TheVariants as state
 use Rattle.row_ledger.specs.Past.{Insert, Query, insert_at, query_at}
 use Rattle.list_words.proofs.{Each.{each-map, each-right}, Truth.on_bool}
-use Rattle.tree_shape.specs.Queries.{NoneWaits, fits}
+use Rattle.volap_cell.specs.tree_shape.specs.Queries.{NoneWaits, fits}
 use Rattle.volap_cell.specs.{Desking.{AreLinesApart, AreUnrelated, Desking, IsAtPart, IsInsertState, IsQueryPart, IsQueryState, IsTaken}, Errands.{AtBlock, InLeaf, ReadPart, RowPlace, RowWay, Taken, gate_entered, read_in_task, taken_by, way_in_task}, Ghost.Ghost, Growing.{Growing, IsUnder, table_of}, Invariant.InvWith, Lineage.Leading, Numbering.Numbering, Owing.Owing, Placing.{Inserting, IsRowPart, NobodyAt, Placing}, Querying.{IsCounted, IsEndOfPart, IsReading, Pinning, Querying, must_hold, pins_of}, Setting.{Setting, actor_count}, Stocking.{IsWhole, Stamping, Stocking, all_items, all_spares, items_of_job, items_of_read}, Turning.{Turning, inside_of, is_inside}, Values.ErrandValue, View.View}
 use Rattle.volap_cell.proofs.{Desks.Facts.{others-apart, others-part, with-parts}, Desks.Lists.{alone, any-of, apart-exchanged, new-now, others-now, some-of, was-cases}, Desks.Shared.{TurnsParts, by-desk, leading-turned, op-same, owing-turned, parts-turned}, OneEvent.Reads.ReadersTake, Persons.has-taken, Sums.{sum-changed, sum-kept}, Views.Fields.IsNewAt}
 

@@ -7,7 +7,7 @@ use Rattle.mapping_table.specs.declared.place.Where.{Where}
 use Rattle.mapping_table.specs.declared.place.Where.TheVariants as where_is
 use Rattle.row_ledger.specs.declared.event.Event.{Event}
 use Rattle.list_words.proofs.Elements.{Some-same}
-use Rattle.shard_store.specs.declared.gate.Gate.{Gate}
+use Rattle.volap_cell.specs.shard_store.specs.declared.gate.Gate.{Gate}
 use Rattle.volap_cell.specs.{Cells.{CellValue, GateCell, MapCell, MapOf, gate_shard, tag_of, where_in}, Errands.{taken_by, taken_of}, Falls.{control_of, far, gates_of_errand, gates_of_part, gates_of_task, gates_of_way, gates_of_work, gone_left, job_left, left, of_work}, Ghost.Ghost, Invariant.InvWith, Setting.{Setting, actor_count, cell_count}, ShardKinds.NotesHeight, Steps.{IsHere, IsKept, Keeps, Makes}, Sums.sum_below, TreeKinds.on_way, Values.{ActorValue, ErrandValue, OfRow, errand_of, task_of}, View.{View, view}, World.{Agrees, Change, World, after, change, held}, declared.errand.Errand.Errand, declared.errand.RowErrand.RowErrand, declared.errand.Way.TheVariants.Before, declared.kind.Kind.TheVariants.LookUp}
 use Rattle.volap_cell.specs.declared.errand.Task.TheVariants as task_is
 use Rattle.volap_cell.proofs.{Persons.has-taken, Sums.{sum-changed, sum-same}, Views.Frames.{actor-at, actor-off, unmoved-one}, Views.Parts.view-note_height, Views.Shown.held-leads}

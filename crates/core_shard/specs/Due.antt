@@ -6,7 +6,7 @@ use Rattle.mapping_table.specs.declared.place.Where.{Where}
 use Rattle.mapping_table.specs.declared.place.Where.TheVariants as where_is
 use Rattle.query_router.specs.{Desk.{DeskValue, is_with, expanded}, declared.part.Part.Part, declared.part.PartState.PartState, declared.part.Want.Want}
 use Rattle.query_router.specs.declared.part.PartState.TheVariants as state
-use Rattle.shard_store.specs.declared.gate.Gate.{Gate}
+use Rattle.volap_cell.specs.shard_store.specs.declared.gate.Gate.{Gate}
 use Rattle.dim_hierarchy.specs.{Dimension.Dimension, Row.IsCoordOf, declared.filter.Pick.Pick}
 use Rattle.describing_set.specs.{Plane.IsHierarchyPlane, declared.plane.Plane.Plane}
 use Rattle.volap_cell.specs.{Cells.{CellValue, DeskOf, GateCell, MapOf, desk_in, tag_of, where_in}, Errands.{Outside, place_of}, ShardKinds.{IsDeskFor, IsOutcome, IsOutside, may_take, path_in, pin_of, waiting, child_for}, TreeKinds.HasRow, Values.{ActorValue, ErrandValue, OfRow, Read, TaskValue, Unread, task_of}, declared.errand.Errand.Errand, declared.errand.RowErrand.RowErrand, declared.errand.Way.Way, declared.errand.Way.TheVariants.{Placed, Before}, declared.role.Role.Role, declared.role.Role.TheVariants.{Session, Hand}}

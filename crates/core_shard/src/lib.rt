@@ -13,3 +13,7 @@ pub use finishes::finish_part;
 pub use forwards::forward;
 pub use looks::look_up;
 pub use takes::take_part;
+
+// What stands below is passed on.
+pub use volap_cell;
+pub use volap_cell::{link_descent, shard_store, tree_shape};

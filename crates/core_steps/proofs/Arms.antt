@@ -4,8 +4,8 @@ use Rattle.core_steps.specs.{Places.{Fill, held, held_at, no_others, numbers, on
 use Rattle.core_steps.proofs.{Held.{IsHeld, can-lift, lent-is, stands-some}, Vectors.{each-other, one-back, two-back}}
 use Rattle.dim_hierarchy.specs.Dimension.{Dimension}
 use Rattle.list_words.specs.Counts.{Each}
-use Rattle.volap_cell.specs.{Cells.{CellValue, cell_of}, Setting.Setting, State.{CanLift, Stand, given, taken}, Values.ActorValue, World.World, declared.actor.Actor.Actor, declared.cell.Cell.Cell, declared.state.State.State}
-use Rattle.volap_cell.proofs.Cells.States.{length-taken, taken-off}
+use Rattle.core_shard.specs.volap_cell.specs.{Cells.{CellValue, cell_of}, Setting.Setting, State.{CanLift, Stand, given, taken}, Values.ActorValue, World.World, declared.actor.Actor.Actor, declared.cell.Cell.Cell, declared.state.State.State}
+use Rattle.core_shard.specs.volap_cell.proofs.Cells.States.{length-taken, taken-off}
 
 -- a cell that stands at a place is held too
 held-too : (state : State) (n f : ℕ) (row : List (Option ℕ)) (o : Option Cell) (held : List (Option Cell)) (a : Actor) → get_or state.cells.items f None ≡ o → is_some o ≡ true → IsHeld state n row held a → IsHeld state n (Some f ∷ row) (o ∷ held) a

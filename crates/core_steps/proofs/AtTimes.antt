@@ -4,10 +4,10 @@ use Rattle.std.proofs.{Common.{ℕ, ◌≡◌, ◌∙◌, Bool, true, false, Lis
 use Rattle.std.specs.Prelude.{option_map}
 use Rattle.core_steps.specs.{Places.{Fill, held, swap_at, thing_at, things, two_at}, Steps.Went, Rows.{number_of, row_kind, row_places}, declared.step.Others.Others, declared.rows.RowStep.RowStep}
 use Rattle.core_steps.specs.declared.rows.RowStep.TheVariants as row_step
-use Rattle.core_tree.specs.Descent.{two_if}
+use Rattle.core_admin.specs.core_tree.specs.Descent.{two_if}
 use Rattle.dim_hierarchy.specs.Dimension.{Dimension}
-use Rattle.volap_cell.specs.{Cells.{cell_of}, Setting.Setting, State.{changes_of, still}, Steps.{IsHere, Makes}, Values.ActorValue, World.{Change, World, change, change_if, held as held_still, held_if}, declared.cell.Cell.Cell}
-use Rattle.volap_cell.specs.declared.kind.Kind.TheVariants.{Down, EnterTree, FinishPart}
+use Rattle.core_shard.specs.volap_cell.specs.{Cells.{cell_of}, Setting.Setting, State.{changes_of, still}, Steps.{IsHere, Makes}, Values.ActorValue, World.{Change, World, change, change_if, held as held_still, held_if}, declared.cell.Cell.Cell}
+use Rattle.core_shard.specs.volap_cell.specs.declared.kind.Kind.TheVariants.{Down, EnterTree, FinishPart}
 
 -- a cell is held at a place that has a number
 pub held-there : (y : ℕ) (row : List (Option ℕ)) (o : Option Cell) (cells : List (Option Cell)) → Fill (Some y ∷ row) (o ∷ cells) → is_some o ≡ true

@@ -2,7 +2,7 @@
 use Rattle.std.proofs.Common.{◌≡◌, List, ◌∷◌, Option, Some, [], sym, subst}
 use Rattle.core_steps.specs.{Books.{book_asks, book_tells}, Places.{held, values}, declared.books.BookStep.BookStep, declared.step.Others.Others}
 use Rattle.dim_hierarchy.specs.Dimension.{Dimension}
-use Rattle.volap_cell.specs.{Cells.CellValue, Values.ActorValue, declared.cell.Cell.Cell}
+use Rattle.core_shard.specs.volap_cell.specs.{Cells.CellValue, Values.ActorValue, declared.cell.Cell.Cell}
 
 module _ {step : BookStep} (is : BookStep) (same : step ≡ is) {first second : Option Cell} {x y : Cell} (one : first ≡ Some x) (two : second ≡ Some y) (o : Others) where
   pub told-two : (a : ActorValue) (now : List (Option CellValue)) → book_tells is a (values (held (Some x) (Some y) o)) now → book_tells step a (values (held first second o)) now

@@ -2,7 +2,7 @@
 use Rattle.std.proofs.Common.{◌≡◌, ℕ, List, [], ◌∷◌, Option, Some, None, refl}
 use Rattle.core_steps.specs.Places.{Fill, numbers, swaps, things, values, values_at}
 use Rattle.list_words.specs.Counts.{Each}
-use Rattle.volap_cell.specs.{Cells.{CellValue, cell_of}, State.{cells_before, cells_now, numbers_of}, declared.cell.Cell.Cell}
+use Rattle.core_shard.specs.volap_cell.specs.{Cells.{CellValue, cell_of}, State.{cells_before, cells_now, numbers_of}, declared.cell.Cell.Cell}
 
 -- What is so of no places, and of more places with what is held there, is so of all.
 pub by-places : (P : List (Option ℕ) → List (Option Cell) → Type 0) → P [] []

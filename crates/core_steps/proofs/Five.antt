@@ -4,8 +4,8 @@ use Rattle.core_steps.specs.Places.{Fill, number_at, numbers, thing_at, things}
 use Rattle.core_steps.proofs.Filling.{each-thing}
 use Rattle.list_words.specs.Counts.{Each}
 use Rattle.list_words.proofs.Each.{each-left, each-map, each-right}
-use Rattle.volap_cell.specs.{State.{CanLift, Stand, given, taken}, declared.cell.Cell.Cell}
-use Rattle.volap_cell.proofs.Cells.Lifting.{lift-others, long-back, stand-others}
+use Rattle.core_shard.specs.volap_cell.specs.{State.{CanLift, Stand, given, taken}, declared.cell.Cell.Cell}
+use Rattle.core_shard.specs.volap_cell.proofs.Cells.Lifting.{lift-others, long-back, stand-others}
 
 -- five things are those at five places
 pub five : {A : Type 0} (xs : List A) (x : A) → length xs ≡ 5 → (get_or xs 0 x ∷ get_or xs 1 x ∷ get_or xs 2 x ∷ get_or xs 3 x ∷ get_or xs 4 x ∷ []) ≡ xs

@@ -6,8 +6,8 @@ use Rattle.core_steps.proofs.Filling.{each-thing, values-there}
 use Rattle.dim_hierarchy.specs.Dimension.{Dimension}
 use Rattle.list_words.specs.Counts.{Each}
 use Rattle.list_words.proofs.Each.{each-map}
-use Rattle.volap_cell.specs.{Cells.{CellValue, cell_of}, Setting.Setting, State.{CanLift, Has, IsUnkept, MayHold, Stand, still}, Steps.IsHere, Values.{ActorValue, actor_of}, World.{MustKeep, World}, declared.actor.Actor.Actor, declared.cell.Cell.Cell, declared.state.State.State}
-use Rattle.volap_cell.proofs.Cells.States.{is-here, same-actor, stand-world}
+use Rattle.core_shard.specs.volap_cell.specs.{Cells.{CellValue, cell_of}, Setting.Setting, State.{CanLift, Has, IsUnkept, MayHold, Stand, still}, Steps.IsHere, Values.{ActorValue, actor_of}, World.{MustKeep, World}, declared.actor.Actor.Actor, declared.cell.Cell.Cell, declared.state.State.State}
+use Rattle.core_shard.specs.volap_cell.proofs.Cells.States.{is-here, same-actor, stand-world}
 
 pub record IsHeld (state : State) (n : ℕ) (row : List (Option ℕ)) (held : List (Option Cell)) (a : Actor) : Type 0 where
   pub fill : Fill row held

@@ -3,7 +3,7 @@
 use Rattle.std.proofs.Common.{ℕ, ◌≡◌, List, Option, Some, sym, subst}
 use Rattle.core_steps.specs.{Jobs.{job_kind, job_places}, Places.held, Steps.Went, declared.jobs.JobStep.JobStep, declared.step.Others.Others}
 use Rattle.dim_hierarchy.specs.Dimension.{Dimension}
-use Rattle.volap_cell.specs.{Setting.{Setting, ledger_cell, registry_cell, stock_cell}, Steps.Makes, Values.ActorValue, World.{Change, World}, declared.cell.Cell.Cell, declared.kind.Kind.Kind}
+use Rattle.core_shard.specs.volap_cell.specs.{Setting.{Setting, ledger_cell, registry_cell, stock_cell}, Steps.Makes, Values.ActorValue, World.{Change, World}, declared.cell.Cell.Cell, declared.kind.Kind.Kind}
 
 abbrev pub all_held : (third fourth fifth sixth : Cell) → (seventh : Option Cell) → Others
 all_held a b c d e = record { third = Some a; fourth = Some b; fifth = Some c; sixth = Some d; seventh = e }

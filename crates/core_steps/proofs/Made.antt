@@ -6,8 +6,8 @@ use Rattle.core_steps.proofs.{Filling.{are-swaps, each-thing, values-there}, Hel
 use Rattle.dim_hierarchy.specs.Dimension.{Dimension}
 use Rattle.list_words.specs.Counts.{Each}
 use Rattle.list_words.proofs.Truth.{on_bool}
-use Rattle.volap_cell.specs.{Cells.{CellValue, cell_of}, Setting.Setting, State.{IsWorldOf, Stand, changes_of, given, taken}, Values.{ActorValue, actor_of}, World.{World, after}, declared.actor.Actor.Actor, declared.cell.Cell.Cell, declared.kind.Kind.Kind, declared.state.State.State}
-use Rattle.volap_cell.proofs.{Cells.{Lifting.drives-as, States.{length-given, length-taken, of-it, same-actor, stand-world, stands, taken-off, world-after}}, Outcomes.{on-err, on-ok}}
+use Rattle.core_shard.specs.volap_cell.specs.{Cells.{CellValue, cell_of}, Setting.Setting, State.{IsWorldOf, Stand, changes_of, given, taken}, Values.{ActorValue, actor_of}, World.{World, after}, declared.actor.Actor.Actor, declared.cell.Cell.Cell, declared.kind.Kind.Kind, declared.state.State.State}
+use Rattle.core_shard.specs.volap_cell.proofs.{Cells.{Lifting.drives-as, States.{length-given, length-taken, of-it, same-actor, stand-world, stands, taken-off, world-after}}, Outcomes.{on-err, on-ok}}
 
 -- an actor that is as it was leaves the state as it was
 same-but : (w : World) (n : ℕ) (v : ActorValue) → w.actors n ≡ v → (a : ℕ) → cond (eqb a n) v (w.actors a) ≡ w.actors a

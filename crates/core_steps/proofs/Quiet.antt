@@ -4,7 +4,7 @@ use Rattle.core_steps.specs.Books.{EndsIn}
 use Rattle.dim_hierarchy.specs.Dimension.{Dimension}
 use Rattle.row_ledger.specs.{Past.is_beginning, declared.event.Event.Event}
 use Rattle.row_ledger.specs.declared.event.Event.TheVariants as event
-use Rattle.volap_cell.specs.{Cells.{CellValue, DeskOf, TheLedger, ledger_in, tag_of}, ImageKinds.{DoesAck, DoesAnswer, DoesNote, DoesNoteWith, DoesSync, FailsRouted, OfCalled, OfCalledAsking, OfCount, OfEnded, OfLeft, OfQuery, OfRefused, OfShown, OfUnknown, OfUnrouted, Pushes}, Values.ActorValue, World.Change, declared.command.Command.Command}
+use Rattle.core_shard.specs.volap_cell.specs.{Cells.{CellValue, DeskOf, TheLedger, ledger_in, tag_of}, ImageKinds.{DoesAck, DoesAnswer, DoesNote, DoesNoteWith, DoesSync, FailsRouted, OfCalled, OfCalledAsking, OfCount, OfEnded, OfLeft, OfQuery, OfRefused, OfShown, OfUnknown, OfUnrouted, Pushes}, Values.ActorValue, World.Change, declared.command.Command.Command}
 
 one-or-none : {P : Type 0} {o : Option Command} {c : Command} → o ≡ None → o ≡ Some c → P
 one-or-none {P} {o} {c} e f = (let k : None ≡ Some c = sym e ∙ f in absurd (cc))

@@ -2,7 +2,7 @@
 use Rattle.std.proofs.Common.{ℕ, ◌≡◌, List, ◌∷◌, Option, Some, [], sym, subst}
 use Rattle.core_steps.specs.{Places.held, Reuses.reuse_places, Steps.Went, declared.reuses.ReuseStep.ReuseStep, declared.step.Others.Others}
 use Rattle.dim_hierarchy.specs.Dimension.{Dimension}
-use Rattle.volap_cell.specs.{Setting.Setting, Values.ActorValue, World.World, declared.cell.Cell.Cell, declared.kind.Kind.TheVariants.Reuse}
+use Rattle.core_shard.specs.volap_cell.specs.{Setting.Setting, Values.ActorValue, World.World, declared.cell.Cell.Cell, declared.kind.Kind.TheVariants.Reuse}
 
 module _ {h : List Dimension} {Sees : Setting → World → ℕ → Type 0} {step : ReuseStep} (is : ReuseStep) (same : step ≡ is) {first second : Option Cell} {p q : Cell} (one : first ≡ Some p) (two : second ≡ Some q) (o : Others)
     (now : List (Option Cell)) (a b : ActorValue) where

@@ -4,8 +4,8 @@ use Rattle.core_steps.specs.{Places.{Fill, held, numbers, one_at, others_held, t
 use Rattle.core_steps.proofs.Filling.{by-places, each-thing}
 use Rattle.list_words.specs.Counts.{Each}
 use Rattle.list_words.proofs.Each.{each-map}
-use Rattle.volap_cell.specs.{State.{AreDifferent, Stand, given, taken}, declared.cell.Cell.Cell}
-use Rattle.volap_cell.proofs.Cells.States.{length-given}
+use Rattle.core_shard.specs.volap_cell.specs.{State.{AreDifferent, Stand, given, taken}, declared.cell.Cell.Cell}
+use Rattle.core_shard.specs.volap_cell.proofs.Cells.States.{length-given}
 
 -- Elsewhere.
 

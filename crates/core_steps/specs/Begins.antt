@@ -1,12 +1,12 @@
 -- What the steps are by which inserts and queries begin, where their cells are, what they ask, and what they tell.
 use Rattle.std.specs.Prelude.{ℕ, ⊤, List, ◌∷◌, Option, Some}
-use Rattle.core_image.specs.{Asking.CanBeginQuery, NotesDue.CanBeginInsert, Told.{Tells, asked_by, begun_by}}
+use Rattle.core_admin.specs.core_image.specs.{Asking.CanBeginQuery, NotesDue.CanBeginInsert, Told.{Tells, asked_by, begun_by}}
 use Rattle.core_steps.specs.Places.{two_at, three_at}
 use Rattle.core_steps.specs.declared.begins.BeginStep.{BeginStep}
 use Rattle.core_steps.specs.declared.begins.BeginStep.TheVariants as begin
 use Rattle.dim_hierarchy.specs.Dimension.{Dimension}
-use Rattle.volap_cell.specs.{Cells.CellValue, Setting.ledger_cell, Values.ActorValue, declared.kind.Kind.Kind}
-use Rattle.volap_cell.specs.declared.kind.Kind.TheVariants as kind
+use Rattle.core_shard.specs.volap_cell.specs.{Cells.CellValue, Setting.ledger_cell, Values.ActorValue, declared.kind.Kind.Kind}
+use Rattle.core_shard.specs.volap_cell.specs.declared.kind.Kind.TheVariants as kind
 
 abbrev pub begin_kind : BeginStep → Kind
 begin_kind (begin.Insert image at measures) = kind.BeginInsert

@@ -1,13 +1,13 @@
 -- What the steps of inserts, queries and pulls that have begun are, where their cells are, what they ask, and what they tell.
 use Rattle.std.specs.Prelude.{ℕ, ◌≡◌, ⊤, false, List, ◌∷◌, Option, Some, Bool, true}
-use Rattle.core_image.specs.{Asking.CanAnswer, Due.CanAck, NotesDue.{CanFailQuery, CanFailRouted, CanFailUnrouted}, Pulling.CanSync, Routing.CanRoute}
+use Rattle.core_admin.specs.core_image.specs.{Asking.CanAnswer, Due.CanAck, NotesDue.{CanFailQuery, CanFailRouted, CanFailUnrouted}, Pulling.CanSync, Routing.CanRoute}
 use Rattle.core_steps.specs.Places.{two_at, three_at}
 use Rattle.core_steps.specs.declared.books.BookStep.{BookStep}
 use Rattle.core_steps.specs.declared.books.BookStep.TheVariants as book
 use Rattle.dim_hierarchy.specs.Dimension.{Dimension}
 use Rattle.row_ledger.specs.{Past.is_beginning, declared.event.Event.Event}
-use Rattle.volap_cell.specs.{Cells.{CellValue, ledger_in}, Setting.{ledger_cell, registry_cell}, Values.ActorValue, declared.kind.Kind.Kind}
-use Rattle.volap_cell.specs.declared.kind.Kind.TheVariants as kind
+use Rattle.core_shard.specs.volap_cell.specs.{Cells.{CellValue, ledger_in}, Setting.{ledger_cell, registry_cell}, Values.ActorValue, declared.kind.Kind.Kind}
+use Rattle.core_shard.specs.volap_cell.specs.declared.kind.Kind.TheVariants as kind
 
 abbrev pub book_kind : BookStep → Kind
 book_kind (book.Route desk image) = kind.Route

@@ -1,11 +1,11 @@
 -- What the steps are by which a session is counted at a desk: where the cell is, and what they ask.
 use Rattle.std.specs.Prelude.{ℕ, List, ◌∷◌, Option, Some, true, false}
-use Rattle.core_image.specs.NotesDue.{CanCount}
+use Rattle.core_admin.specs.core_image.specs.NotesDue.{CanCount}
 use Rattle.core_steps.specs.Places.{one_at}
 use Rattle.core_steps.specs.declared.counts.CountStep.{CountStep}
 use Rattle.core_steps.specs.declared.counts.CountStep.TheVariants as count
 use Rattle.dim_hierarchy.specs.Dimension.{Dimension}
-use Rattle.volap_cell.specs.{Cells.CellValue, Values.ActorValue}
+use Rattle.core_shard.specs.volap_cell.specs.{Cells.CellValue, Values.ActorValue}
 
 abbrev pub count_places : CountStep → List (Option ℕ)
 count_places (count.Comes desk) = one_at desk

@@ -5,8 +5,8 @@ use Rattle.core_steps.specs.Places.{one_at, two_at, three_at}
 use Rattle.core_steps.specs.declared.jobs.JobStep.{JobStep}
 use Rattle.core_steps.specs.declared.jobs.JobStep.TheVariants as job
 use Rattle.dim_hierarchy.specs.Dimension.{Dimension}
-use Rattle.volap_cell.specs.{Cells.CellValue, Setting.{ledger_cell, registry_cell, stock_cell}, Values.ActorValue, declared.kind.Kind.Kind}
-use Rattle.volap_cell.specs.declared.kind.Kind.TheVariants as kind
+use Rattle.core_shard.specs.volap_cell.specs.{Cells.CellValue, Setting.{ledger_cell, registry_cell, stock_cell}, Values.ActorValue, declared.kind.Kind.Kind}
+use Rattle.core_shard.specs.volap_cell.specs.declared.kind.Kind.TheVariants as kind
 
 abbrev pub job_kind : JobStep → Kind
 job_kind (job.ReadLoad map gate workers) = kind.LookUp

@@ -9,3 +9,12 @@ pub mod Notes
 pub mod Jobs
 pub mod Reuses
 pub mod Counts
+-- What stands below is passed on.
+pub use Rattle.core_shard.specs.shard_store
+pub use Rattle.core_shard.specs.link_descent
+pub use Rattle.core_shard.specs.tree_shape
+pub use Rattle.core_shard.specs.volap_cell
+pub use Rattle.core_admin.specs.core_tree
+pub use Rattle.core_admin.specs.core_image
+pub use Rattle.core_shard
+pub use Rattle.core_admin

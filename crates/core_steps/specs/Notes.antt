@@ -1,13 +1,13 @@
 -- What the notes in the ledger are, where their cells are, what they ask, and what they tell.
 use Rattle.std.specs.Prelude.{ℕ, ⊤, List, ◌∷◌, Option, Some, Bool, true, false}
-use Rattle.core_image.specs.{NotesDue.{CanNoteAsking, CanNoteCalled, CanNoteEnded, CanNoteLeft, CanNoteRefused, CanNoteShown, CanNoteUnknown}, Told.{Tells, called_by, ended_by, refused_by, unknown_by}, ToldPages.shown_by}
+use Rattle.core_admin.specs.core_image.specs.{NotesDue.{CanNoteAsking, CanNoteCalled, CanNoteEnded, CanNoteLeft, CanNoteRefused, CanNoteShown, CanNoteUnknown}, Told.{Tells, called_by, ended_by, refused_by, unknown_by}, ToldPages.shown_by}
 use Rattle.core_steps.specs.Books.{EndsIn}
 use Rattle.core_steps.specs.Places.{one_at, two_at}
 use Rattle.core_steps.specs.declared.notes.NoteStep.{NoteStep}
 use Rattle.core_steps.specs.declared.notes.NoteStep.TheVariants as note
 use Rattle.dim_hierarchy.specs.Dimension.{Dimension}
-use Rattle.volap_cell.specs.{Cells.CellValue, Setting.{Setting, ledger_cell, registry_cell}, Sights.Sees, Values.ActorValue, World.World, declared.kind.Kind.Kind}
-use Rattle.volap_cell.specs.declared.kind.Kind.TheVariants as kind
+use Rattle.core_shard.specs.volap_cell.specs.{Cells.CellValue, Setting.{Setting, ledger_cell, registry_cell}, Sights.Sees, Values.ActorValue, World.World, declared.kind.Kind.Kind}
+use Rattle.core_shard.specs.volap_cell.specs.declared.kind.Kind.TheVariants as kind
 
 abbrev pub note_kind : NoteStep → Kind
 note_kind step = kind.Note

@@ -5,8 +5,8 @@ use Rattle.core_steps.specs.Places.{one_at, two_at}
 use Rattle.core_steps.specs.declared.parts.PartStep.{PartStep}
 use Rattle.core_steps.specs.declared.parts.PartStep.TheVariants as part
 use Rattle.dim_hierarchy.specs.Dimension.{Dimension}
-use Rattle.volap_cell.specs.{Cells.CellValue, Values.ActorValue, declared.kind.Kind.Kind}
-use Rattle.volap_cell.specs.declared.kind.Kind.TheVariants as kind
+use Rattle.core_shard.specs.volap_cell.specs.{Cells.CellValue, Values.ActorValue, declared.kind.Kind.Kind}
+use Rattle.core_shard.specs.volap_cell.specs.declared.kind.Kind.TheVariants as kind
 
 abbrev pub part_kind : PartStep → Kind
 part_kind (part.TakePart desk) = kind.TakePart

@@ -2,7 +2,7 @@
 use Rattle.std.specs.Prelude.{ℕ, ◌≡◌, List, [], ◌∷◌, ◌++◌, get_or, map, is_some, option_map, Option, Some, None}
 use Rattle.core_steps.specs.declared.step.{Others.Others, Places.Places}
 use Rattle.core_steps.specs.declared.step.Places.TheVariants as places
-use Rattle.volap_cell.specs.{Cells.{CellValue, cell_of}, State.{Exchange, cell_if, exchange_if}, declared.cell.Cell.Cell}
+use Rattle.core_shard.specs.volap_cell.specs.{Cells.{CellValue, cell_of}, State.{Exchange, cell_if, exchange_if}, declared.cell.Cell.Cell}
 
 -- Places. Each is the number of a cell, or of none.
 

@@ -5,7 +5,7 @@ use Rattle.core_steps.specs.Places.{two_at, three_at}
 use Rattle.core_steps.specs.declared.reuses.ReuseStep.{ReuseStep}
 use Rattle.core_steps.specs.declared.reuses.ReuseStep.TheVariants as reuse
 use Rattle.dim_hierarchy.specs.Dimension.{Dimension}
-use Rattle.volap_cell.specs.{Cells.CellValue, Setting.stock_cell, Values.ActorValue}
+use Rattle.core_shard.specs.volap_cell.specs.{Cells.CellValue, Setting.stock_cell, Values.ActorValue}
 
 abbrev pub reuse_places : ReuseStep → List (Option ℕ)
 reuse_places (reuse.Block gate block) = three_at gate block stock_cell

@@ -2,10 +2,10 @@
 use Rattle.std.specs.Prelude.{ℕ, List, [], ◌∷◌, Option, Some, None}
 use Rattle.core_steps.specs.declared.rows.RowStep.{RowStep}
 use Rattle.core_steps.specs.declared.rows.RowStep.TheVariants as row
-use Rattle.core_tree.specs.Descent.{CanDown, CanEnterTree, two_if}
+use Rattle.core_admin.specs.core_tree.specs.Descent.{CanDown, CanEnterTree, two_if}
 use Rattle.dim_hierarchy.specs.Dimension.{Dimension}
-use Rattle.volap_cell.specs.{Cells.CellValue, Values.ActorValue, World.held_if, declared.kind.Kind.Kind}
-use Rattle.volap_cell.specs.declared.kind.Kind.TheVariants as kind
+use Rattle.core_shard.specs.volap_cell.specs.{Cells.CellValue, Values.ActorValue, World.held_if, declared.kind.Kind.Kind}
+use Rattle.core_shard.specs.volap_cell.specs.declared.kind.Kind.TheVariants as kind
 
 abbrev pub row_kind : RowStep → Kind
 row_kind (row.Down parent place child first second fresh) = kind.Down

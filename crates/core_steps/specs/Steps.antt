@@ -3,7 +3,7 @@ use Rattle.std.specs.Prelude.{ℕ, ◌≡◌, ◌≢◌, ◌<◌, List, length, 
 use Rattle.core_steps.specs.Places.{numbers, swaps, values_at}
 use Rattle.dim_hierarchy.specs.Dimension.{Dimension}
 use Rattle.list_words.specs.Counts.{Each}
-use Rattle.volap_cell.specs.{Cells.CellValue, Setting.Setting, State.{AreDifferent, HasInv, IsWorldOf, Stepped, changes_of}, Steps.{HasSight, Inv, Makes}, Values.ActorValue, World.{World, MustKeep}, declared.cell.Cell.Cell, declared.kind.Kind.Kind, declared.state.State.State}
+use Rattle.core_shard.specs.volap_cell.specs.{Cells.CellValue, Setting.Setting, State.{AreDifferent, HasInv, IsWorldOf, Stepped, changes_of}, Steps.{HasSight, Inv, Makes}, Values.ActorValue, World.{World, MustKeep}, declared.cell.Cell.Cell, declared.kind.Kind.Kind, declared.state.State.State}
 
 -- Over cells.
 

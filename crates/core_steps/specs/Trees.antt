@@ -3,11 +3,11 @@ use Rattle.std.specs.Prelude.{ℕ, ◌≤◌, List, ◌∷◌, Option, Some, Boo
 use Rattle.core_steps.specs.Places.{one_at, two_at}
 use Rattle.core_steps.specs.declared.trees.TreeStep.{TreeStep}
 use Rattle.core_steps.specs.declared.trees.TreeStep.TheVariants as tree
-use Rattle.core_tree.specs.{Due.CanPutInLeaf, DueAtGates.{CanEnterQueue, CanGiveBack, CanLeaveTree, CanRefill}, ReadDue.{CanBlockVisit, CanGateRead, room_to_note}}
+use Rattle.core_admin.specs.core_tree.specs.{Due.CanPutInLeaf, DueAtGates.{CanEnterQueue, CanGiveBack, CanLeaveTree, CanRefill}, ReadDue.{CanBlockVisit, CanGateRead, room_to_note}}
 use Rattle.dim_hierarchy.specs.Dimension.{Dimension}
-use Rattle.link_descent.specs.Visit.{most_noted}
-use Rattle.volap_cell.specs.{Cells.CellValue, Setting.stock_cell, Values.ActorValue, declared.actor.Actor.Actor, declared.kind.Kind.Kind}
-use Rattle.volap_cell.specs.declared.kind.Kind.TheVariants as kind
+use Rattle.core_shard.specs.link_descent.specs.Visit.{most_noted}
+use Rattle.core_shard.specs.volap_cell.specs.{Cells.CellValue, Setting.stock_cell, Values.ActorValue, declared.actor.Actor.Actor, declared.kind.Kind.Kind}
+use Rattle.core_shard.specs.volap_cell.specs.declared.kind.Kind.TheVariants as kind
 
 abbrev pub tree_kind : TreeStep → Kind
 tree_kind (tree.PutInLeaf leaf) = kind.PutInLeaf

@@ -2,9 +2,9 @@
 
 use crate::places::ledger_place;
 use crate::step::{CellStep, Others, Places};
+use core_shard::volap_cell::{Actor, Cell, lent};
 use dim_hierarchy::{Coord, Filter, Hierarchy, Measures};
 use std::alloc::{AllocError, Global};
-use volap_cell::{Actor, Cell, lent};
 
 /// A step by which an actor's next command begins, with the image of its server.
 #[derive(Drop)]
@@ -70,7 +70,7 @@ impl CellStep for BeginStep {
                 image,
                 at,
                 measures,
-            } => core_image::begin_insert(
+            } => core_admin::core_image::begin_insert(
                 alloc, h, image, first, ledger_at, second, actor, at, measures,
             ),
             BeginStep::Query {
@@ -78,7 +78,7 @@ impl CellStep for BeginStep {
                 image,
                 filter,
             } => {
-                core_image::begin_query(
+                core_admin::core_image::begin_query(
                     alloc,
                     h,
                     desk,

@@ -2,9 +2,9 @@
 
 use crate::places::{ledger_place, registry_place};
 use crate::step::{CellStep, Others, Places};
+use core_shard::volap_cell::{Actor, Cell, lent};
 use dim_hierarchy::Hierarchy;
 use std::alloc::{AllocError, Global};
-use volap_cell::{Actor, Cell, lent};
 
 /// A step of an actor's insert, query or pull, with the desk or the image of a server.
 #[derive(Drop)]
@@ -75,10 +75,10 @@ impl CellStep for BookStep {
         let (first, second) = (lent(first), lent(second));
         match self {
             BookStep::Route { desk, image } => {
-                core_image::route(alloc, h, desk, first, image, second, actor)
+                core_admin::core_image::route(alloc, h, desk, first, image, second, actor)
             }
             BookStep::Ack { desk, image } => {
-                core_image::ack(
+                core_admin::core_image::ack(
                     h,
                     desk,
                     first,
@@ -91,11 +91,11 @@ impl CellStep for BookStep {
                 Ok(())
             }
             BookStep::Answer { desk } => {
-                core_image::answer(h, desk, first, ledger_at, second, actor);
+                core_admin::core_image::answer(h, desk, first, ledger_at, second, actor);
                 Ok(())
             }
             BookStep::Sync { image } => {
-                core_image::sync(
+                core_admin::core_image::sync(
                     alloc,
                     h,
                     image,
@@ -108,11 +108,11 @@ impl CellStep for BookStep {
                 )
             }
             BookStep::FailUnrouted { image } => {
-                core_image::fail_unrouted(h, image, first, ledger_at, second, actor);
+                core_admin::core_image::fail_unrouted(h, image, first, ledger_at, second, actor);
                 Ok(())
             }
             BookStep::FailRouted { desk, image } => {
-                core_image::fail_routed(
+                core_admin::core_image::fail_routed(
                     h,
                     desk,
                     first,
@@ -125,7 +125,7 @@ impl CellStep for BookStep {
                 Ok(())
             }
             BookStep::FailQuery { desk } => {
-                core_image::fail_query(h, desk, first, ledger_at, second, actor);
+                core_admin::core_image::fail_query(h, desk, first, ledger_at, second, actor);
                 Ok(())
             }
         }

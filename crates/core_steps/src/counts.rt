@@ -1,9 +1,9 @@
 //! The steps by which a session comes to the desk of its server, and goes.
 
 use crate::step::{CellStep, Others, Places};
+use core_shard::volap_cell::{Actor, Cell, lent};
 use dim_hierarchy::Hierarchy;
 use std::alloc::{AllocError, Global};
-use volap_cell::{Actor, Cell, lent};
 
 /// A step of a session by which its server's desk counts it, or counts it no more.
 #[derive(Drop)]
@@ -15,7 +15,7 @@ pub enum CountStep {
 impl CellStep for CountStep {
     ghost use Rattle.std.specs.Prelude.{⊤, false};
     ghost use Rattle.core_steps.specs.Counts.{count_asks, count_places};
-    ghost use Rattle.volap_cell.specs.declared.kind.Kind.TheVariants.{Note};
+    ghost use Rattle.core_shard.specs.volap_cell.specs.declared.kind.Kind.TheVariants.{Note};
 
     ghost kind = { λ step. Note };
 
@@ -49,10 +49,10 @@ impl CellStep for CountStep {
         let _ = alloc;
         match self {
             CountStep::Comes { desk } => {
-                core_image::count_session(h, desk, lent(first), actor, true);
+                core_admin::core_image::count_session(h, desk, lent(first), actor, true);
             }
             CountStep::Goes { desk } => {
-                core_image::count_session(h, desk, lent(first), actor, false);
+                core_admin::core_image::count_session(h, desk, lent(first), actor, false);
             }
         }
         Ok(())

@@ -2,16 +2,16 @@
 ghost use Rattle.std.specs.Prelude.{◌≡◌, ◌≢◌, ◌<◌, ◌∷◌, false, length, Some, None, IsOk, OnErr, OnOk, slice_index_or, slice_set};
 ghost use Rattle.core_steps.specs.Places.{Fill, held_at, things, two_at, values};
 ghost use Rattle.core_steps.specs.Steps.{IsFurther, IsSame, IsSound, IsSpared, IsTold, MayMake, Went};
-ghost use Rattle.volap_cell.specs.State.{still};
-ghost use Rattle.volap_cell.specs.Steps.{IsHere};
-ghost use Rattle.volap_cell.specs.Values.{actor_of};
+ghost use Rattle.core_shard.specs.volap_cell.specs.State.{still};
+ghost use Rattle.core_shard.specs.volap_cell.specs.Steps.{IsHere};
+ghost use Rattle.core_shard.specs.volap_cell.specs.Values.{actor_of};
 
 use crate::lending::lend_two;
 use crate::moving::{lift, put};
 use crate::step::{CellStep, Others, Places};
+use core_shard::volap_cell::{Actor, Cell, State, lent};
 use dim_hierarchy::Hierarchy;
 use std::alloc::{AllocError, Global};
-use volap_cell::{Actor, Cell, State, lent};
 
 /// An actor makes a step: the first two cells are lent where they stand, and others are moved out and put
 /// back. Where memory is wanting, the state stays as it was.

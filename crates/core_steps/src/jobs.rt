@@ -2,9 +2,9 @@
 
 use crate::places::{ledger_place, registry_place, stock_place};
 use crate::step::{CellStep, Others, Places};
+use core_shard::volap_cell::{Actor, Cell, lent};
 use dim_hierarchy::Hierarchy;
 use std::alloc::{AllocError, Global};
-use volap_cell::{Actor, Cell, lent};
 
 /// A step of the administrator's job, or of its balance.
 #[derive(Drop)]

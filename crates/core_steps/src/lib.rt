@@ -28,3 +28,6 @@ pub use reuses::ReuseStep;
 pub use rows::RowStep;
 pub use step::{CellStep, Others, Places};
 pub use trees::TreeStep;
+
+// What stands below is passed on.
+pub use core_shard::{link_descent, shard_store, tree_shape, volap_cell};

@@ -2,10 +2,10 @@
 ghost use Rattle.std.specs.Prelude.{ℕ, ◌≡◌, ◌<◌, length, is_some};
 ghost use Rattle.core_steps.specs.Places.{Fill, number_at, numbers, others_held, thing_at, things};
 ghost use Rattle.list_words.specs.Counts.{Each};
-ghost use Rattle.volap_cell.specs.State.{CanLift, Stand, given, taken};
+ghost use Rattle.core_shard.specs.volap_cell.specs.State.{CanLift, Stand, given, taken};
 
 use crate::step::Others;
-use volap_cell::{Cell, lift_one, put_one};
+use core_shard::volap_cell::{Cell, lift_one, put_one};
 
 /// Moves out what stands at the places that have a number.
 pub(crate) fn lift(cells: &mut Vec<Option<Cell>>, places: &[Option<u32>; 5]) -> Others

@@ -2,10 +2,10 @@
 
 use crate::places::{ledger_place, registry_place};
 use crate::step::{CellStep, Others, Places};
+use core_shard::volap_cell::{Actor, Cell, lent};
 use dim_hierarchy::Hierarchy;
 use row_ledger::{Call, How, Page};
 use std::alloc::{AllocError, Global};
-use volap_cell::{Actor, Cell, lent};
 
 /// A note of an actor in the ledger.
 #[derive(Drop)]
@@ -62,10 +62,22 @@ impl<'a> CellStep for NoteStep<'a> {
     ) -> Result<(), AllocError> {
         let at = ledger_place();
         match self {
-            NoteStep::Unknown { dim } => core_image::note_unknown(h, at, lent(first), actor, dim),
-            NoteStep::Refused => core_image::note_refused(h, at, lent(first), actor),
-            NoteStep::Called { call } => core_image::note_called(h, at, lent(first), actor, call),
-            NoteStep::Asking { call, workers } => core_image::note_asking(
+            NoteStep::Unknown { dim } => core_admin::core_image::note_unknown(
+                h,
+                at,
+                lent(first),
+                actor,
+                dim,
+            ),
+            NoteStep::Refused => core_admin::core_image::note_refused(h, at, lent(first), actor),
+            NoteStep::Called { call } => core_admin::core_image::note_called(
+                h,
+                at,
+                lent(first),
+                actor,
+                call,
+            ),
+            NoteStep::Asking { call, workers } => core_admin::core_image::note_asking(
                 alloc,
                 h,
                 registry_place(),
@@ -77,15 +89,15 @@ impl<'a> CellStep for NoteStep<'a> {
                 workers,
             ),
             NoteStep::Ended { how } => {
-                core_image::note_ended(h, at, lent(first), actor, how);
+                core_admin::core_image::note_ended(h, at, lent(first), actor, how);
                 Ok(())
             }
             NoteStep::Left => {
-                core_image::note_left(h, at, lent(first), actor);
+                core_admin::core_image::note_left(h, at, lent(first), actor);
                 Ok(())
             }
             NoteStep::Shown { page } => {
-                core_image::note_shown(h, at, lent(first), actor, page);
+                core_admin::core_image::note_shown(h, at, lent(first), actor, page);
                 Ok(())
             }
         }

@@ -1,9 +1,9 @@
 //! The steps of parts between desks, tables of shards and gates.
 
 use crate::step::{CellStep, Others, Places};
+use core_shard::volap_cell::{Actor, Cell, lent};
 use dim_hierarchy::Hierarchy;
 use std::alloc::{AllocError, Global};
-use volap_cell::{Actor, Cell, lent};
 
 /// A step of an actor that takes a part from a desk, sends it on, or ends it.
 #[derive(Drop)]

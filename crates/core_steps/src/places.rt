@@ -1,6 +1,6 @@
 //! In which cells a core has what is a server's or a worker's.
 ghost use Rattle.std.specs.Prelude.{◌≡◌};
-ghost use Rattle.volap_cell.specs.Setting.{Setting, desk_cell, image_cell, ledger_cell, map_cell, registry_cell, stock_cell};
+ghost use Rattle.core_shard.specs.volap_cell.specs.Setting.{Setting, desk_cell, image_cell, ledger_cell, map_cell, registry_cell, stock_cell};
 
 use row_ledger::Use;
 

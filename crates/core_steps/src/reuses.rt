@@ -2,9 +2,9 @@
 
 use crate::places::stock_place;
 use crate::step::{CellStep, Others, Places};
+use core_shard::volap_cell::{Actor, Cell, lent};
 use dim_hierarchy::Hierarchy;
 use std::alloc::{AllocError, Global};
-use volap_cell::{Actor, Cell, lent};
 
 /// A step of the administrator, who has no command, by which one cell of a gate that is gone is the stock's again.
 #[derive(Drop)]
@@ -18,7 +18,7 @@ pub enum ReuseStep {
 impl CellStep for ReuseStep {
     ghost use Rattle.std.specs.Prelude.{⊤, false};
     ghost use Rattle.core_steps.specs.Reuses.{reuse_asks, reuse_places};
-    ghost use Rattle.volap_cell.specs.declared.kind.Kind.TheVariants.{Reuse};
+    ghost use Rattle.core_shard.specs.volap_cell.specs.declared.kind.Kind.TheVariants.{Reuse};
 
     ghost kind = { λ step. Reuse };
 

@@ -3,9 +3,9 @@ ghost use Rattle.std.specs.Prelude.{◌≡◌};
 ghost use Rattle.core_steps.specs.Rows.{number_of};
 
 use crate::step::{CellStep, Others, Places};
+use core_shard::volap_cell::{Actor, Cell, lent};
 use dim_hierarchy::Hierarchy;
 use std::alloc::{AllocError, Global};
-use volap_cell::{Actor, Cell, lent};
 
 /// A step of an actor's row to a head.
 #[derive(Drop)]
@@ -107,7 +107,7 @@ impl CellStep for RowStep {
                 second: last,
                 fresh,
             } => {
-                core_tree::down(
+                core_admin::core_tree::down(
                     h,
                     parent,
                     lent(first),
@@ -132,7 +132,7 @@ impl CellStep for RowStep {
                 fresh,
                 top,
             } => {
-                core_tree::enter_tree(
+                core_admin::core_tree::enter_tree(
                     h,
                     map,
                     lent(first),

@@ -1,8 +1,8 @@
 //! What a step is over the cells that it holds.
 
+use core_shard::volap_cell::{Actor, Cell};
 use dim_hierarchy::Hierarchy;
 use std::alloc::{AllocError, Global};
-use volap_cell::{Actor, Cell};
 
 /// The numbers of the cells that a step holds, in their order: of one cell, of two, or of two and up to five
 /// others. A place of these has none where the step holds no cell there.
@@ -46,14 +46,14 @@ pub trait CellStep: Sized {
     ghost use Rattle.core_steps.specs.Places.{Fill, held, row_of, things, values};
     ghost use Rattle.core_steps.specs.Steps.{Went};
     ghost use Rattle.dim_hierarchy.specs.Dimension.{Dimension};
-    ghost use Rattle.volap_cell.specs.Cells.{CellValue};
-    ghost use Rattle.volap_cell.specs.Setting.{Setting};
-    ghost use Rattle.volap_cell.specs.State.{still};
-    ghost use Rattle.volap_cell.specs.Steps.{IsHere};
-    ghost use Rattle.volap_cell.specs.Values.{ActorValue, actor_of};
-    ghost use Rattle.volap_cell.specs.World.{World};
-    ghost use Rattle.volap_cell.specs.declared.actor.Actor.{Actor};
-    ghost use Rattle.volap_cell.specs.declared.kind.Kind.{Kind};
+    ghost use Rattle.core_shard.specs.volap_cell.specs.Cells.{CellValue};
+    ghost use Rattle.core_shard.specs.volap_cell.specs.Setting.{Setting};
+    ghost use Rattle.core_shard.specs.volap_cell.specs.State.{still};
+    ghost use Rattle.core_shard.specs.volap_cell.specs.Steps.{IsHere};
+    ghost use Rattle.core_shard.specs.volap_cell.specs.Values.{ActorValue, actor_of};
+    ghost use Rattle.core_shard.specs.volap_cell.specs.World.{World};
+    ghost use Rattle.core_shard.specs.volap_cell.specs.declared.actor.Actor.{Actor};
+    ghost use Rattle.core_shard.specs.volap_cell.specs.declared.kind.Kind.{Kind};
 
     /// Its kind.
     ghost kind: { Self → Kind };

@@ -1,9 +1,9 @@
 //! The steps of rows and queries at a gate or a block, and of purses.
 use crate::places::stock_place;
 use crate::step::{CellStep, Others, Places};
+use core_shard::volap_cell::{Actor, Cell, lent};
 use dim_hierarchy::Hierarchy;
 use std::alloc::{AllocError, Global};
-use volap_cell::{Actor, Cell, lent};
 
 /// A step of an actor at a gate or in its tree, or of its purse.
 #[derive(Drop)]
@@ -64,10 +64,20 @@ impl CellStep for TreeStep {
         actor: &mut Actor,
     ) -> Result<(), AllocError> {
         match self {
-            TreeStep::PutInLeaf { leaf } => core_tree::put_in_leaf(h, leaf, lent(first), actor),
-            TreeStep::LeaveTree { gate } => core_tree::leave_tree(h, gate, lent(first), actor),
+            TreeStep::PutInLeaf { leaf } => core_admin::core_tree::put_in_leaf(
+                h,
+                leaf,
+                lent(first),
+                actor,
+            ),
+            TreeStep::LeaveTree { gate } => core_admin::core_tree::leave_tree(
+                h,
+                gate,
+                lent(first),
+                actor,
+            ),
             TreeStep::EnterQueue { map, gate } => {
-                return core_tree::enter_queue(
+                return core_admin::core_tree::enter_queue(
                     alloc,
                     h,
                     map,
@@ -78,19 +88,32 @@ impl CellStep for TreeStep {
                 );
             }
             TreeStep::ReadGate { map, gate } => {
-                return core_tree::gate_read(alloc, h, map, lent(first), gate, lent(second), actor);
+                return core_admin::core_tree::gate_read(
+                    alloc,
+                    h,
+                    map,
+                    lent(first),
+                    gate,
+                    lent(second),
+                    actor,
+                );
             }
             TreeStep::VisitBlock { block } => {
-                return core_tree::block_visit(h, block, lent(first), actor);
+                return core_admin::core_tree::block_visit(h, block, lent(first), actor);
             }
-            TreeStep::Refill => return core_tree::refill(
+            TreeStep::Refill => return core_admin::core_tree::refill(
                 alloc,
                 h,
                 stock_place(),
                 lent(first),
                 actor,
             ),
-            TreeStep::GiveBack => core_tree::give_back(h, stock_place(), lent(first), actor),
+            TreeStep::GiveBack => core_admin::core_tree::give_back(
+                h,
+                stock_place(),
+                lent(first),
+                actor,
+            ),
         }
         Ok(())
     }

@@ -3,7 +3,7 @@ use Rattle.std.proofs.{Common.{◌≡◌, ◌≢◌, ◌∙◌, ℕ, ◌⊎◌, 
 use Rattle.std.specs.Prelude.{slice_get, option_map, option_and_then}
 use Rattle.dim_hierarchy.specs.Dimension.{Dimension}
 use Rattle.dc_node.specs.declared.block.Block.{Block}
-use Rattle.link_descent.specs.declared.entered.Fresh.{Fresh}
+use Rattle.volap_cell.specs.link_descent.specs.declared.entered.Fresh.{Fresh}
 use Rattle.cell_stock.specs.declared.purse.Spare.{Spare}
 use Rattle.describing_set.specs.declared.plane.Plane.{Plane}
 use Rattle.row_ledger.specs.{Classes.class_of, LedgerValue.LedgerValue, Past.{end_in, ends_itself, session_in}, declared.class.Class.Class, declared.event.Event.Event, declared.settings.How.How}

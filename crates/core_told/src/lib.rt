@@ -5,3 +5,6 @@
 mod laws;
 
 pub use laws::{ends_have_pulls, opening_has_pulled, pulls_go_on, steps_tell_so};
+
+// What stands below is passed on.
+pub use volap_cell;

@@ -3,9 +3,9 @@ use Rattle.std.specs.Prelude.{ℕ, ◌≡◌, ◌+◌, ◌^◌, ◌<◌, ◌≤�
 use Rattle.dim_hierarchy.specs.{Dimension.Dimension, Rows.IsRowOf, declared.row.Row.Row}
 use Rattle.cell_stock.specs.{Stock.PurseValue, declared.purse.Spare.Spare}
 use Rattle.dc_node.specs.{Block.{is_full, entries_in, IsBodyOf}, Summary.row_count, declared.block.Block.Block, declared.entry.Entry.Entry}
-use Rattle.link_descent.specs.{Divide.together, Pick.IsPick}
+use Rattle.volap_cell.specs.link_descent.specs.{Divide.together, Pick.IsPick}
 use Rattle.mapping_table.specs.declared.place.Where.TheVariants as where_is
-use Rattle.shard_store.specs.{declared.gate.Gate.Gate, declared.gate.Phase.TheVariants.Open}
+use Rattle.volap_cell.specs.shard_store.specs.{declared.gate.Gate.Gate, declared.gate.Phase.TheVariants.Open}
 use Rattle.volap_cell.specs.{Cells.{CellValue, BlockCell, GateCell, block_in}, Errands.is_filled, NewBlocks.{FitsIn, WentIn}, TreeKinds.{HasRow, IsTailOf, Leads}, Values.{ActorValue, ErrandValue}, World.{Change, MustKeep, held, held_if}, declared.errand.RowErrand.RowErrand}
 
 -- The blocks behind a head, which are held at times and stay as they are.

@@ -2,7 +2,7 @@
 use Rattle.std.specs.Prelude.{ℕ, ◌≡◌, ◌≢◌, ◌+◌, ◌*◌, ◌^◌, ◌<◌, ◌≤◌, ◌⊎◌, false, [], Some, None, length}
 use Rattle.cell_stock.specs.Stock.{Gives, PurseValue, StockValue, Takes}
 use Rattle.mapping_table.specs.declared.place.Where.TheVariants as where_is
-use Rattle.shard_store.specs.declared.gate.Gate.{Gate}
+use Rattle.volap_cell.specs.shard_store.specs.declared.gate.Gate.{Gate}
 use Rattle.volap_cell.specs.{Cells.{CellValue, GateCell, TheStock, tag_of}, Errands.{Outside, height_of, height_to_fill, is_filled, place_of}, TreeKinds.{HasRow, Leads, MayQueue}, Values.{ActorValue, ErrandValue}, World.{MustKeep, held}, declared.errand.RowErrand.RowErrand, declared.errand.Way.TheVariants.Put}
 
 -- the actor has put its row in its leaf, and its insert is still counted at the gate in the cell

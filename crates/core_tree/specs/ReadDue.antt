@@ -5,11 +5,11 @@ use Rattle.std.specs.FinMap as map
 use Rattle.dim_hierarchy.specs.{Compiled.compiled, Dimension.Dimension, Filter.{IsFilterOf, pick_at}, declared.filter.Pick.Pick, declared.filter.Pick.TheVariants.All}
 use Rattle.describing_set.specs.Sets.{IsDescSetOf}
 use Rattle.dc_node.specs.{Block.IsBodyOf, Summary.row_count, declared.block.Block.Block, declared.todo.Item.Item}
-use Rattle.link_descent.specs.{GateRead.{queue_part, tree_part, root_items}, Visit.{noted_in, noted_right, counted}}
+use Rattle.volap_cell.specs.link_descent.specs.{GateRead.{queue_part, tree_part, root_items}, Visit.{noted_in, noted_right, counted}}
 use Rattle.mapping_table.specs.declared.place.Where.{Where}
 use Rattle.mapping_table.specs.declared.place.Where.TheVariants as where_is
 use Rattle.measure_agg.specs.Joining.{join}
-use Rattle.shard_store.specs.{Gate.IsQueueOf, declared.gate.Gate.Gate}
+use Rattle.volap_cell.specs.shard_store.specs.{Gate.IsQueueOf, declared.gate.Gate.Gate}
 use Rattle.volap_cell.specs.{Cells.{CellValue, MapCell}, TreeKinds.{one_if_some, pin_if}, Values.{ActorValue, ErrandValue, ReadingValue, Unread, Read}, declared.actor.Actor.Actor, declared.errand.Errand.Errand, declared.errand.Task.Task}
 use Rattle.volap_cell.specs.declared.errand.Task.TheVariants as task
 

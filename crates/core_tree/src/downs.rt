@@ -3,7 +3,7 @@ ghost use Rattle.std.specs.Prelude.{◌≡◌, ◌+◌, ◌<◌, ◌∷◌, ◌+
 ghost use Rattle.dc_node.specs.Block.{entries_in};
 ghost use Rattle.dc_node.specs.declared.entry.Entry.{Entry};
 ghost use Rattle.core_tree.specs.Descent.{CanDown, CanStep, block_if, blocks_if, two_if};
-ghost use Rattle.link_descent.specs.Pick.{IsPick};
+ghost use Rattle.volap_cell.specs.link_descent.specs.Pick.{IsPick};
 ghost use Rattle.volap_cell.specs.Cells.{cell_of};
 ghost use Rattle.volap_cell.specs.NewBlocks.{WentDown};
 ghost use Rattle.volap_cell.specs.Steps.{IsHere, Makes};
@@ -14,8 +14,8 @@ ghost use Rattle.volap_cell.specs.declared.kind.Kind.TheVariants.{Down};
 use cell_stock::Purse;
 use dc_node::Block;
 use dim_hierarchy::{Hierarchy, Row};
-use link_descent::{Tail, pass_down};
-use tree_shape::{collect_laws, frame_law, insert_laws, tree_laws};
+use volap_cell::link_descent::{Tail, pass_down};
+use volap_cell::tree_shape::{collect_laws, frame_law, insert_laws, tree_laws};
 use volap_cell::{Actor, Boxes, Cell, Way, block_in, go_on, row_in};
 
 /// Lends the block of a cell that is held behind a head, where there is one, behind those of the tail.

@@ -11,9 +11,9 @@ use crate::downs::add_behind;
 use cell_stock::Purse;
 use dc_node::Block;
 use dim_hierarchy::{Hierarchy, Row};
-use link_descent::{Tail, pass_root};
-use shard_store::Gate;
-use tree_shape::{collect_laws, frame_law, insert_laws, tree_laws};
+use volap_cell::link_descent::{Tail, pass_root};
+use volap_cell::shard_store::Gate;
+use volap_cell::tree_shape::{collect_laws, frame_law, insert_laws, tree_laws};
 use volap_cell::{Actor, Boxes, Cell, Way, block_in, gate_in, go_on, row_in};
 
 /// Takes a row in at an open gate, with the blocks behind the root that are held, and counts the insert

@@ -18,3 +18,7 @@ pub use queues::enter_queue;
 pub use reads::{all_is_read_at_the_gate, gate_read};
 pub use refills::{give_back, refill};
 pub use visits::block_visit;
+
+// What stands below is passed on.
+pub use volap_cell;
+pub use volap_cell::{link_descent, shard_build, shard_store, tree_shape};

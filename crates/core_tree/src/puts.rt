@@ -8,7 +8,7 @@ ghost use Rattle.volap_cell.specs.World.{change, held};
 ghost use Rattle.volap_cell.specs.declared.kind.Kind.TheVariants.{PutInLeaf};
 
 use dim_hierarchy::Hierarchy;
-use tree_shape::{collect_laws, frame_law, insert_laws};
+use volap_cell::tree_shape::{collect_laws, frame_law, insert_laws};
 use volap_cell::{Actor, Cell, Way, block_in, go_on, row_in};
 
 /// Puts the row that the actor carries behind the rows of its leaf. It is carried no more. Takes no memory.

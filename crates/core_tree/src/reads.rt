@@ -9,11 +9,11 @@ ghost use Rattle.volap_cell.specs.declared.kind.Kind.TheVariants.{GateRead};
 
 use dc_node::Todo;
 use dim_hierarchy::{Filter, Hierarchy};
-use link_descent::read_gate;
 use measure_agg::Agg;
-use shard_store::Gate;
 use std::alloc::{AllocError, Global};
-use tree_shape::{frame_law, query_laws, tree_laws};
+use volap_cell::link_descent::read_gate;
+use volap_cell::shard_store::Gate;
+use volap_cell::tree_shape::{frame_law, query_laws, tree_laws};
 use volap_cell::{Actor, Cell, Errand, Reading, Task, gate_in, lent};
 
 /// Reads queue and tree of the gate to which the worker of the part leads: what lies inside the filter is

@@ -1,7 +1,7 @@
 //! The step of a query at a block.
 ghost use Rattle.std.specs.Prelude.{◌≡◌, ◌≤◌, [], ◌∷◌, IsOk, OnOk, OnErr};
 ghost use Rattle.core_tree.specs.ReadDue.{CanBlockVisit, CanVisit, Visits, IsAtBlock, VisitsFor, room_in_task, room_to_note};
-ghost use Rattle.link_descent.specs.Visit.{most_noted};
+ghost use Rattle.volap_cell.specs.link_descent.specs.Visit.{most_noted};
 ghost use Rattle.volap_cell.specs.Cells.{cell_of};
 ghost use Rattle.volap_cell.specs.Steps.{IsHere, Makes};
 ghost use Rattle.volap_cell.specs.Values.{actor_of, errand_of, reading_of};
@@ -10,9 +10,9 @@ ghost use Rattle.volap_cell.specs.declared.kind.Kind.TheVariants.{BlockVisit};
 
 use dc_node::Block;
 use dim_hierarchy::Hierarchy;
-use link_descent::{MOST_NOTED, visit};
 use std::alloc::AllocError;
-use tree_shape::{query_laws, tree_laws};
+use volap_cell::link_descent::{MOST_NOTED, visit};
+use volap_cell::tree_shape::{query_laws, tree_laws};
 use volap_cell::{Actor, Cell, Errand, Reading, Task, block_seen, lent};
 
 /// Visits the block that the actor's query noted last: counts what it must there, and notes what it has

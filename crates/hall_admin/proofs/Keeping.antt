@@ -5,8 +5,8 @@ use Rattle.std.specs.Prelude.{OnErr, OnOk}
 use Rattle.actor_run.proofs.{Chains.extends-length, PassAndSession.pass-stands}
 use Rattle.actor_run.specs.{Called.{EndedCall, EndedSo, EndsCall, HasBegunNothing, NotCalled, TriesCall, WasRefused}}
 use Rattle.atomic_table.specs.Seated.{TableId}
-use Rattle.call_steps.specs.{Calls.CanCall, Opened.IsCallDone}
-use Rattle.core_image.specs.Told.{refused_by}
+use Rattle.actor_run.specs.call_steps.specs.{Calls.CanCall, Opened.IsCallDone}
+use Rattle.job_steps.specs.core_image.specs.Told.{refused_by}
 use Rattle.dim_hierarchy.specs.Dimension.{Dimension}
 use Rattle.hall_admin.specs.{Callers.{IsCaller, StaysCaller}, Jobs.IsOfJob, Pulls.TriesSync, declared.puller.Synced.Synced}
 use Rattle.row_ledger.proofs.Positions.{event_at-here}
@@ -16,14 +16,14 @@ use Rattle.row_ledger.specs.declared.{event.Event.TheVariants.Refused, settings.
 use Rattle.row_ledger.specs.declared.settings.How.TheVariants as how_it
 use Rattle.script_run.proofs.{Begin.begins-own, PlaceFacts.begins_of-here}
 use Rattle.script_run.specs.Places.{begins_of}
-use Rattle.seat_steps.proofs.{Around.around, Since.extends-on}
-use Rattle.seat_steps.specs.{Booked.IsAsBefore, Floors.{IsSeated, Stands, kept_on}, declared.floor.{Floor.Floor, Player.Player}}
-use Rattle.session_steps.proofs.Heard.{begun-nothing, numbered, right-seen}
-use Rattle.session_steps.specs.Begins.{HasNoted}
+use Rattle.job_steps.specs.seat_steps.proofs.{Around.around, Since.extends-on}
+use Rattle.job_steps.specs.seat_steps.specs.{Booked.IsAsBefore, Floors.{IsSeated, Stands, kept_on}, declared.floor.{Floor.Floor, Player.Player}}
+use Rattle.actor_run.specs.session_steps.proofs.Heard.{begun-nothing, numbered, right-seen}
+use Rattle.actor_run.specs.session_steps.specs.Begins.{HasNoted}
 use Rattle.turn_table.specs.Numbered.{Extends}
-use Rattle.volap_cell.specs.{Commands.{MayCall, MayCallAs}, Errands.way_of, ImageKinds.IsFree, Setting.{Setting, actor_count, site_in}, Sights.IsIdle, Values.{ActorValue, ErrandValue, actor_of}, declared.role.Role.Role}
-use Rattle.volap_cell.specs.declared.role.Role.TheVariants as is_role
-use Rattle.volap_turns.specs.Seats.{Holds}
+use Rattle.job_steps.specs.volap_cell.specs.{Commands.{MayCall, MayCallAs}, Errands.way_of, ImageKinds.IsFree, Setting.{Setting, actor_count, site_in}, Sights.IsIdle, Values.{ActorValue, ErrandValue, actor_of}, declared.role.Role.Role}
+use Rattle.job_steps.specs.volap_cell.specs.declared.role.Role.TheVariants as is_role
+use Rattle.job_steps.specs.volap_turns.specs.Seats.{Holds}
 
 -- an end is one of which something stands in the history
 ended-so : (f : Floor) (number : ℕ) (call : Call) (how : How) (was now : List Event) → EndedCall f number call how was now → EndedSo f number call how was now

@@ -1,8 +1,8 @@
 -- A call of a split, a move or a balance goes on from its beginning to its end.
 use Rattle.std.proofs.Common.{◌≡◌, ◌∙◌, ℕ, ◌≤◌, Bool, true, false, List, ◌∷◌, length, Option, Some, None, option_and_then, refl, sym, ap, subst, arith}
 use Rattle.std.specs.Prelude.{IfSome}
-use Rattle.call_steps.proofs.OpenCalls.{but-on, call-opened, called-on, called-still, command-is, extends-length, open-still}
-use Rattle.call_steps.specs.{Calls.{BeginsWith, CanEndCall, CanLeaveAction, HasCalled, HasLeftAction}, Opened.{IsButCommand, IsCallDone, IsCallOpen}}
+use Rattle.actor_run.specs.call_steps.proofs.OpenCalls.{but-on, call-opened, called-on, called-still, command-is, extends-length, open-still}
+use Rattle.actor_run.specs.call_steps.specs.{Calls.{BeginsWith, CanEndCall, CanLeaveAction, HasCalled, HasLeftAction}, Opened.{IsButCommand, IsCallDone, IsCallOpen}}
 use Rattle.hall_admin.proofs.Keeping.{caller-stands}
 use Rattle.hall_admin.specs.{Callers.IsCaller, Jobs.{IsJobOpen, IsOfJob}}
 use Rattle.job_steps.specs.Jobs.{GoesOnWithJob, HasEndedAction, HasPassed, IsFurtherJob, IsOfAdmin, IsOutcome, IsToEnd, IsToLeave}
@@ -13,10 +13,10 @@ use Rattle.row_ledger.specs.declared.class.Class.TheVariants as class
 use Rattle.row_ledger.specs.declared.event.Event.TheVariants.{Called, Ended, Left}
 use Rattle.row_ledger.specs.Settled.{pulls_since}
 use Rattle.script_run.specs.{Places.{begins_in, begins_of}, Runs.ArePulls}
-use Rattle.seat_steps.specs.{Booked.{HasPushed, IsAsBefore}, declared.floor.{Floor.Floor, Player.Player}}
-use Rattle.session_steps.proofs.Heard.{begun-nothing}
-use Rattle.volap_cell.specs.{Commands.{MayNoteEnd, after_action}, Planning.next_job, ImageKinds.{IsBegun, doing}, Values.{ActorValue, JobValue, actor_of}, declared.command.{Balance.Balance, Command.Command, Work.Work}, declared.role.Role.TheVariants.Admin}
-use Rattle.volap_cell.specs.declared.command.Work.TheVariants as work_is
+use Rattle.job_steps.specs.seat_steps.specs.{Booked.{HasPushed, IsAsBefore}, declared.floor.{Floor.Floor, Player.Player}}
+use Rattle.actor_run.specs.session_steps.proofs.Heard.{begun-nothing}
+use Rattle.job_steps.specs.volap_cell.specs.{Commands.{MayNoteEnd, after_action}, Planning.next_job, ImageKinds.{IsBegun, doing}, Values.{ActorValue, JobValue, actor_of}, declared.command.{Balance.Balance, Command.Command, Work.Work}, declared.role.Role.TheVariants.Admin}
+use Rattle.job_steps.specs.volap_cell.specs.declared.command.Work.TheVariants as work_is
 
 -- a balance is one still when it is further, and a split or a move is the same
 further-kind : (w v : Work) → IsOfAdmin w → IsFurtherJob w v → IsOfAdmin v

@@ -2,8 +2,8 @@
 use Rattle.std.specs.Prelude.{ℕ, ◌≡◌, List, Result}
 use Rattle.actor_run.specs.{Called.{DoesCall, DoesTryCall, HasHeard}, Passes.{IsPass, IsPassOf, PassValue, pass_of}}
 use Rattle.row_ledger.specs.declared.{event.Event.Event, settings.{Call.Call, How.How}}
-use Rattle.seat_steps.specs.declared.floor.{Floor.Floor, Player.Player}
-use Rattle.volap_cell.specs.{Values.actor_of, declared.role.Role.Role}
+use Rattle.job_steps.specs.seat_steps.specs.declared.floor.{Floor.Floor, Player.Player}
+use Rattle.job_steps.specs.volap_cell.specs.{Values.actor_of, declared.role.Role.Role}
 
 pub record CallerValue : Type 0 where
   pub floor : Floor

@@ -1,10 +1,10 @@
 -- A split, a move or a balance that an administrator has called, from its beginning to its end.
 use Rattle.std.specs.Prelude.{ℕ, ⊤, Option, Some, None}
-use Rattle.call_steps.specs.Opened.{IsCallDone, IsCallOpen}
+use Rattle.actor_run.specs.call_steps.specs.Opened.{IsCallDone, IsCallOpen}
 use Rattle.job_steps.specs.Jobs.{HasJobOpen}
 use Rattle.row_ledger.specs.{Classes.class_of, declared.class.Class.Class, declared.settings.{Call.Call, How.How}}
 use Rattle.row_ledger.specs.declared.class.Class.TheVariants as class
-use Rattle.seat_steps.specs.declared.floor.{Floor.Floor, Player.Player}
+use Rattle.job_steps.specs.seat_steps.specs.declared.floor.{Floor.Floor, Player.Player}
 
 -- a split or a move, or a balance
 abbrev pub IsOfJob : Class → Type 0

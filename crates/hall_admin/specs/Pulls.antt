@@ -4,7 +4,7 @@ use Rattle.actor_run.specs.Called.{EndedSo, HasBegunNothing, HasHeard}
 use Rattle.hall_admin.specs.{Callers.CallerValue, declared.puller.Synced.Synced}
 use Rattle.hall_admin.specs.declared.puller.Synced.TheVariants as synced
 use Rattle.row_ledger.specs.declared.{event.Event.Event, settings.{Call.TheVariants.Sync, How.How, How.TheVariants.{Fine, NoMemory}}}
-use Rattle.seat_steps.specs.declared.floor.Floor.{Floor}
+use Rattle.job_steps.specs.seat_steps.specs.declared.floor.Floor.{Floor}
 
 abbrev pub how_of : Synced → How
 how_of synced.Ok = Fine

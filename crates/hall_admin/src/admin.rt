@@ -5,12 +5,12 @@ ghost use Rattle.hall_admin.specs.Callers.{BecomesCaller, MakesCall, TriesToCall
 ghost use Rattle.hall_admin.specs.Jobs.{IsOfJob};
 ghost use Rattle.row_ledger.specs.Classes.{class_of};
 ghost use Rattle.row_ledger.specs.declared.settings.Call.TheVariants as is_call;
-ghost use Rattle.volap_cell.specs.declared.role.Role.TheVariants as is_role;
+ghost use Rattle.job_steps.specs.volap_cell.specs.declared.role.Role.TheVariants as is_role;
 
 use crate::calls::make_call;
 use actor_run::{Hall, Pass};
+use job_steps::seat_steps::Player;
 use row_ledger::{Call, How};
-use seat_steps::Player;
 use std::alloc::{AllocError, Global};
 use std::marker::Model;
 use std::sync::Wait;
@@ -27,7 +27,7 @@ impl<'a> Model for Admin<'a> {
     ghost use Rattle.dim_hierarchy.specs.Stored.{dimension_code};
     ghost use Rattle.std.specs.Coded.{codes};
     ghost use Rattle.hall_admin.specs.Callers.{CallerValue, IsCaller, caller_of};
-    ghost use Rattle.volap_cell.specs.declared.role.Role.TheVariants as is_role;
+    ghost use Rattle.job_steps.specs.volap_cell.specs.declared.role.Role.TheVariants as is_role;
 
     ghost Value = { CallerValue };
 

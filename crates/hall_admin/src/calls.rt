@@ -5,15 +5,15 @@ ghost use Rattle.hall_admin.specs.Callers.{IsCaller, StaysCaller};
 ghost use Rattle.hall_admin.specs.Jobs.{IsOfJob};
 ghost use Rattle.hall_admin.specs.Pulls.{TriesSync};
 ghost use Rattle.row_ledger.specs.Classes.{class_of};
-ghost use Rattle.volap_cell.specs.declared.role.Role.{Role};
-ghost use Rattle.volap_cell.specs.declared.role.Role.TheVariants as is_role;
+ghost use Rattle.job_steps.specs.volap_cell.specs.declared.role.Role.{Role};
+ghost use Rattle.job_steps.specs.volap_cell.specs.declared.role.Role.TheVariants as is_role;
 
 use crate::driving::drive;
 use crate::puller::Synced;
-use call_steps::begin_call;
+use actor_run::call_steps::begin_call;
+use actor_run::session_steps::note_refused;
+use job_steps::seat_steps::{Floor, Player};
 use row_ledger::{Call, How};
-use seat_steps::{Floor, Player};
-use session_steps::note_refused;
 use std::alloc::{AllocError, Global};
 use std::sync::Wait;
 
@@ -52,10 +52,10 @@ pub(crate) fn pull_for<R: Wait>(
     requires server { server < floor.now.with.servers }
     ensures ends { StaysCaller floor.now is_role.Puller (TriesSync floor.now player.old.number server result) player.old player.new }
 {
-    match call_steps::sync(rt, alloc, floor, player, server) {
-        call_steps::Synced::Ok(_) => Ok(Synced::Ok),
-        call_steps::Synced::Failed(_) => Ok(Synced::NoMemory),
-        call_steps::Synced::NotBegun => {
+    match actor_run::call_steps::sync(rt, alloc, floor, player, server) {
+        actor_run::call_steps::Synced::Ok(_) => Ok(Synced::Ok),
+        actor_run::call_steps::Synced::Failed(_) => Ok(Synced::NoMemory),
+        actor_run::call_steps::Synced::NotBegun => {
             refuse(rt, alloc, floor, player)?;
             Ok(Synced::NoMemory)
         }

@@ -1,14 +1,14 @@
 //! An open split, move or balance, to its end.
 ghost use Rattle.std.specs.Prelude.{ℕ};
-ghost use Rattle.call_steps.specs.Opened.{IsCallDone};
+ghost use Rattle.actor_run.specs.call_steps.specs.Opened.{IsCallDone};
 ghost use Rattle.hall_admin.specs.Jobs.{GoesOnCall, IsJobOpen};
 ghost use Rattle.row_ledger.specs.declared.settings.Call.{Call};
-ghost use Rattle.seat_steps.specs.declared.floor.Player.{Player};
+ghost use Rattle.job_steps.specs.seat_steps.specs.declared.floor.Player.{Player};
 
-use call_steps::{end_call, leave_action};
+use actor_run::call_steps::{end_call, leave_action};
+use job_steps::seat_steps::{Floor, Player};
 use job_steps::{JobDid, go_on_with_job};
 use row_ledger::How;
-use seat_steps::{Floor, Player};
 use std::alloc::Global;
 use std::sync::Wait;
 use std::thread::yield_now;

@@ -4,11 +4,11 @@ ghost use Rattle.actor_run.specs.Passes.{IsPassOf};
 ghost use Rattle.hall_admin.specs.Callers.{BecomesCaller, MakesCall};
 ghost use Rattle.hall_admin.specs.Pulls.{TriesToSync, how_of};
 ghost use Rattle.row_ledger.specs.declared.settings.Call.TheVariants as is_call;
-ghost use Rattle.volap_cell.specs.declared.role.Role.TheVariants as is_role;
+ghost use Rattle.job_steps.specs.volap_cell.specs.declared.role.Role.TheVariants as is_role;
 
 use crate::calls::pull_for;
 use actor_run::{Hall, Pass};
-use seat_steps::Player;
+use job_steps::seat_steps::Player;
 use std::alloc::{AllocError, Global};
 use std::marker::Model;
 use std::sync::Wait;
@@ -32,7 +32,7 @@ impl<'a> Model for Puller<'a> {
     ghost use Rattle.dim_hierarchy.specs.Stored.{dimension_code};
     ghost use Rattle.std.specs.Coded.{codes};
     ghost use Rattle.hall_admin.specs.Callers.{CallerValue, IsCaller, caller_of};
-    ghost use Rattle.volap_cell.specs.declared.role.Role.TheVariants as is_role;
+    ghost use Rattle.job_steps.specs.volap_cell.specs.declared.role.Role.TheVariants as is_role;
 
     ghost Value = { CallerValue };
 

@@ -1,11 +1,11 @@
 -- The passes of a hall with four sessions, taken one after the other.
 use Rattle.std.proofs.{Common.{◌≡◌, ◌∙◌, ℕ, ◌+◌, ◌<◌, ◌==◌, inl, inr, List, length, ap, arith}, lemmas.Bool.ne_eqb}
 use Rattle.std.specs.Prelude.{count_by, if◌then◌else◌}
-use Rattle.actor_run.specs.{Halls.HasOpened, Passes.{HasTaken, IsOut, PassValue, PassesValue}}
+use Rattle.hall_calls.specs.actor_run.specs.{Halls.HasOpened, Passes.{HasTaken, IsOut, PassValue, PassesValue}}
 use Rattle.dim_hierarchy.specs.Dimension.{Dimension}
 use Rattle.row_ledger.specs.declared.settings.Use.{Use}
-use Rattle.seat_steps.specs.declared.floor.Floor.{Floor}
-use Rattle.volap_cell.specs.declared.role.Role.{Role}
+use Rattle.hall_calls.specs.seat_steps.specs.declared.floor.Floor.{Floor}
+use Rattle.hall_calls.specs.volap_cell.specs.declared.role.Role.{Role}
 use Rattle.hall_calls.proofs.Four.{four, settled}
 use Rattle.hall_bench.specs.Rest.{AreInFrom}
 

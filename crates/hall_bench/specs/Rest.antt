@@ -1,6 +1,6 @@
 -- Passes that are taken one after the other.
 use Rattle.std.specs.Prelude.{ℕ, ◌≡◌, ◌≤◌, ◌==◌, count_by, length}
-use Rattle.actor_run.specs.Passes.{PassesValue}
+use Rattle.hall_calls.specs.actor_run.specs.Passes.{PassesValue}
 
 -- Of a hall with four sessions and its own actor, the passes from this number on are in.
 pub record AreInFrom (n : ℕ) (p : PassesValue) : Type 0 where

@@ -1,20 +1,20 @@
 //! Inserts that are dealt out to sessions.
 ghost use Rattle.std.specs.Prelude.{◌≡◌, ◌<◌, ◌+◌, ◌∷◌, [], IfOk, length};
 ghost use Rattle.std.specs.Thread.{IsSync};
-ghost use Rattle.actor_run.specs.Passes.{HasTaken, IsPassOf, IsPassesOf};
+ghost use Rattle.hall_calls.specs.actor_run.specs.Passes.{HasTaken, IsPassOf, IsPassesOf};
 ghost use Rattle.hall_bench.specs.Rest.{AreInFrom};
 ghost use Rattle.hall_calls.specs.Passing.{CanWork, IsBack};
-ghost use Rattle.volap_cell.specs.declared.role.Role.TheVariants.{Session as OfSession};
+ghost use Rattle.hall_calls.specs.volap_cell.specs.declared.role.Role.TheVariants.{Session as OfSession};
 
-use actor_run::{Hall, Inserted, Pass, Passes, Session};
 use dim_hierarchy::Hierarchy;
+use hall_calls::actor_run::{Hall, Inserted, Pass, Passes, Session};
+use hall_calls::volap_cell::{Role, RoleList};
 use row_ledger::Use;
 use script_form::{Command, Script};
 use std::alloc::{AllocError, Global};
 use std::mem::forget;
 use std::sync::Wait;
 use std::thread::{Threads, join};
-use volap_cell::{Role, RoleList};
 use volap_io::Quiet;
 
 /// Four servers and a worker.

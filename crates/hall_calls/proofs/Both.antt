@@ -5,9 +5,9 @@ use Rattle.actor_run.specs.{Halls.{HasClosed, HasOpened, IsHallFor, hall_setting
 use Rattle.dim_hierarchy.specs.{Dimension.{Dimension, IsHierarchy}, declared.filter.NamePick.NamePick}
 use Rattle.list_words.proofs.Elements.{Some-same}
 use Rattle.row_ledger.specs.{Right.IsRight, Site.site_of, declared.settings.Use.Use}
-use Rattle.seat_steps.specs.declared.floor.Floor.{Floor}
-use Rattle.volap_cell.specs.{Numbering.{IsRoleOf, IsSetting}, Setting.Setting, declared.role.Role.Role, declared.role.Role.TheVariants.{Admin, Session}, declared.state.State.State}
-use Rattle.volap_turns.specs.Wholes.{IsWhole}
+use Rattle.actor_run.specs.seat_steps.specs.declared.floor.Floor.{Floor}
+use Rattle.actor_run.specs.volap_cell.specs.{Numbering.{IsRoleOf, IsSetting}, Setting.Setting, declared.role.Role.Role, declared.role.Role.TheVariants.{Admin, Session}, declared.state.State.State}
+use Rattle.actor_run.specs.volap_turns.specs.Wholes.{IsWhole}
 use Rattle.hall_calls.specs.{Both.{HasBoth, two_servers, two_sessions}, Tells.{HasWorked, IsTold}, declared.work.Told.Told}
 use Rattle.hall_calls.proofs.Tellings.{told-extended}
 

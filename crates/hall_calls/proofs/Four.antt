@@ -4,8 +4,8 @@ use Rattle.std.specs.Prelude.{Some, count_by, if◌then◌else◌, slice_get, le
 use Rattle.actor_run.specs.{Halls.{HasOpened, IsHallFor, hall_setting, own_role}, Passes.{AreAllIn, HasGiven, HasTaken, IsPassOf, PassValue, PassesValue}}
 use Rattle.dim_hierarchy.specs.Dimension.{Dimension, IsHierarchy}
 use Rattle.row_ledger.specs.declared.settings.Use.{Use}
-use Rattle.seat_steps.specs.declared.floor.Floor.{Floor}
-use Rattle.volap_cell.specs.{Numbering.{IsRoleOf, IsSetting}, Setting.Setting, declared.role.Role.Role, declared.role.Role.TheVariants.{Admin, Session}}
+use Rattle.actor_run.specs.seat_steps.specs.declared.floor.Floor.{Floor}
+use Rattle.actor_run.specs.volap_cell.specs.{Numbering.{IsRoleOf, IsSetting}, Setting.Setting, declared.role.Role.Role, declared.role.Role.TheVariants.{Admin, Session}}
 use Rattle.hall_calls.specs.Passing.{CanWork}
 use Rattle.hall_calls.proofs.Both.{none-out, role-taken}
 

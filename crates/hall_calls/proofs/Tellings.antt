@@ -9,10 +9,10 @@ use Rattle.actor_run.specs.declared.session.Inserted.TheVariants as inserted
 use Rattle.dim_hierarchy.specs.{Dimension.Dimension, Filter.IsFilterNamed, declared.filter.NamePick.NamePick, declared.row.Row.Row}
 use Rattle.row_ledger.specs.{Past.event_at, Right.IsRight, Site.{Site, site_of}, declared.event.Event.Event}
 use Rattle.row_ledger.specs.declared.event.Event.TheVariants as event
-use Rattle.seat_steps.specs.declared.floor.Floor.{Floor}
-use Rattle.session_steps.specs.Begins.{row_at}
+use Rattle.actor_run.specs.seat_steps.specs.declared.floor.Floor.{Floor}
+use Rattle.actor_run.specs.session_steps.specs.Begins.{row_at}
 use Rattle.turn_table.specs.Numbered.{Extends}
-use Rattle.volap_cell.specs.declared.role.Role.TheVariants.{Session}
+use Rattle.actor_run.specs.volap_cell.specs.declared.role.Role.TheVariants.{Session}
 use Rattle.hall_calls.specs.{Rows.{AreOwn, IsOwnRow, Teller}, Tells.{Answers, AreNamesFor, HasOwn, HasWorked, IsNewRow, IsTold, teller_of}, declared.work.Told.Told}
 use Rattle.hall_calls.proofs.Rows.{are-own-later, counts-own, no-own, one-more, own-newest}
 

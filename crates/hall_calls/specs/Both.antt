@@ -2,8 +2,8 @@
 use Rattle.std.specs.Prelude.{ℕ, List, [], ◌∷◌}
 use Rattle.dim_hierarchy.specs.{Dimension.Dimension, declared.filter.NamePick.NamePick}
 use Rattle.row_ledger.specs.{Right.IsRight, declared.event.Event.Event, declared.settings.Use.Use}
-use Rattle.volap_cell.specs.{declared.role.Role.{Role}, declared.role.Role.TheVariants.Session, declared.state.State.State}
-use Rattle.volap_turns.specs.Wholes.{HasHistory, IsWhole}
+use Rattle.actor_run.specs.volap_cell.specs.{declared.role.Role.{Role}, declared.role.Role.TheVariants.Session, declared.state.State.State}
+use Rattle.actor_run.specs.volap_turns.specs.Wholes.{HasHistory, IsWhole}
 use Rattle.hall_calls.specs.{Tells.IsTold, declared.work.Told.Told}
 
 -- two servers and a worker

@@ -5,8 +5,8 @@ use Rattle.actor_run.specs.declared.session.Asked.{Asked}
 use Rattle.actor_run.specs.declared.session.Asked.TheVariants as asked
 use Rattle.dim_hierarchy.specs.{Dimension.Dimension, Names.IsNamePick, declared.filter.NamePick.NamePick, declared.row.Row.Row}
 use Rattle.row_ledger.specs.{declared.event.Event.Event, declared.event.Event.TheVariants.Answered}
-use Rattle.seat_steps.specs.declared.floor.Floor.{Floor}
-use Rattle.volap_cell.specs.declared.role.Role.TheVariants.{Session}
+use Rattle.actor_run.specs.seat_steps.specs.declared.floor.Floor.{Floor}
+use Rattle.actor_run.specs.volap_cell.specs.declared.role.Role.TheVariants.{Session}
 use Rattle.hall_calls.specs.{Rows.{AreOwn, Counts, IsOwnRow, Teller}, declared.work.Told.Told}
 
 abbrev pub teller_of : SessionValue → Teller

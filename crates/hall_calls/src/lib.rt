@@ -8,3 +8,7 @@ mod work;
 
 pub use two::count_on_two_threads;
 pub use work::{Places, Told, insert_and_ask};
+
+// What stands below is passed on.
+pub use actor_run;
+pub use actor_run::volap_cell;

@@ -4,11 +4,11 @@ ghost use Rattle.dim_hierarchy.specs.Names.{IsNamePick};
 
 use crate::{Places, Told, count_on_two_threads};
 use actor_run::Asked;
+use actor_run::volap_cell::{Cell, State};
 use dim_hierarchy::{Hierarchy, Name, NameFilter, NamePick, RowNames};
 use row_ledger::Event;
 use std::alloc::{AllocError, Global};
 use std::test::Fail;
-use volap_cell::{Cell, State};
 
 /// A dimension with two towns.
 fn towns(alloc: Global) -> Result<Hierarchy, Fail>

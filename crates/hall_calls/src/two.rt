@@ -7,13 +7,13 @@ ghost use Rattle.hall_calls.specs.Both.{HasBoth, two_servers, two_sessions};
 ghost use Rattle.hall_calls.specs.Tells.{AreNamesFor, HasWorked};
 
 use crate::work::{Places, Told, work};
+use actor_run::volap_cell::{Role, RoleList, State};
 use actor_run::{Hall, Pass};
 use dim_hierarchy::Hierarchy;
 use row_ledger::Use;
 use std::alloc::{AllocError, Global};
 use std::sync::Wait;
 use std::thread::{Threads, join};
-use volap_cell::{Role, RoleList, State};
 
 /// A session of each of two servers.
 fn two_sessions(alloc: Global) -> Result<RoleList, AllocError>

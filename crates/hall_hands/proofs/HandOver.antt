@@ -8,11 +8,11 @@ use Rattle.dim_hierarchy.specs.Dimension.{Dimension}
 use Rattle.hall_hands.specs.{Hands.{HasServedAll, IsHand, hand_of}, Rounds.{HasFoundNobody}}
 use Rattle.hand_steps.specs.Hands.{IsIdleHand}
 use Rattle.script_run.specs.Places.{begins_of}
-use Rattle.seat_steps.proofs.Around.{around}
-use Rattle.seat_steps.specs.{Floors.{Stands, kept_on}, declared.floor.{Floor.Floor, Player.Player}}
-use Rattle.session_steps.proofs.Heard.{begun-nothing, right-seen}
-use Rattle.volap_cell.specs.{Errands.way_of, Numbering.IsRoleOf, Setting.actor_count, Sights.IsIdle, Values.{ActorValue, ErrandValue, actor_of}, declared.role.Role.TheVariants.Hand}
-use Rattle.volap_turns.specs.Seats.{Holds}
+use Rattle.hand_steps.specs.seat_steps.proofs.Around.{around}
+use Rattle.hand_steps.specs.seat_steps.specs.{Floors.{Stands, kept_on}, declared.floor.{Floor.Floor, Player.Player}}
+use Rattle.hand_steps.specs.session_steps.proofs.Heard.{begun-nothing, right-seen}
+use Rattle.hand_steps.specs.volap_cell.specs.{Errands.way_of, Numbering.IsRoleOf, Setting.actor_count, Sights.IsIdle, Values.{ActorValue, ErrandValue, actor_of}, declared.role.Role.TheVariants.Hand}
+use Rattle.hand_steps.specs.volap_turns.specs.Seats.{Holds}
 
 module _ (f : Floor) (worker : ℕ) (p : Player) (hand : IsHand f worker p) where
   pub hand-stands : Stands f p

@@ -5,11 +5,11 @@ use Rattle.hand_steps.specs.Hands.{HasServed, IsIdleHand, NoneCounted}
 use Rattle.hand_steps.specs.declared.hands.Found.{Found}
 use Rattle.hand_steps.specs.declared.hands.Found.TheVariants as found
 use Rattle.row_ledger.specs.declared.event.Event.{Event}
-use Rattle.seat_steps.proofs.Since.{extends-on}
-use Rattle.seat_steps.specs.{Floors.Stands, declared.floor.{Floor.Floor, Player.Player}}
+use Rattle.hand_steps.specs.seat_steps.proofs.Since.{extends-on}
+use Rattle.hand_steps.specs.seat_steps.specs.{Floors.Stands, declared.floor.{Floor.Floor, Player.Player}}
 use Rattle.turn_table.proofs.Numbered.{starts_self}
 use Rattle.turn_table.specs.Numbered.{Extends}
-use Rattle.volap_cell.specs.Values.{ActorValue, actor_of}
+use Rattle.hand_steps.specs.volap_cell.specs.Values.{ActorValue, actor_of}
 
 -- what was so between two times was so between an earlier and a later one
 pub counted-within : (f : Floor) (server number : ℕ) (first past now last : List Event) → NoneCounted f server number past now → Extends past first → Extends last now → NoneCounted f server number first last

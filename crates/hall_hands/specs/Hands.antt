@@ -4,9 +4,9 @@ use Rattle.actor_run.specs.Passes.{IsPass, IsPassOf, PassValue, pass_of}
 use Rattle.hand_steps.specs.Hands.{NoneCounted}
 use Rattle.row_ledger.specs.declared.event.Event.{Event}
 use Rattle.script_run.specs.Places.{begins_of}
-use Rattle.seat_steps.specs.declared.floor.{Floor.Floor, Player.Player}
+use Rattle.hand_steps.specs.seat_steps.specs.declared.floor.{Floor.Floor, Player.Player}
 use Rattle.turn_table.specs.Numbered.{Extends}
-use Rattle.volap_cell.specs.{Values.actor_of, declared.role.Role.Role, declared.role.Role.TheVariants.Hand}
+use Rattle.hand_steps.specs.volap_cell.specs.{Values.actor_of, declared.role.Role.Role, declared.role.Role.TheVariants.Hand}
 
 pub record HandValue : Type 0 where
   pub floor : Floor

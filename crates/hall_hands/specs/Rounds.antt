@@ -3,9 +3,9 @@ use Rattle.std.specs.Prelude.{ℕ, ◌≡◌, ◌<◌, []}
 use Rattle.hall_hands.specs.declared.rounds.Round.{Round}
 use Rattle.hall_hands.specs.declared.rounds.Round.TheVariants as round
 use Rattle.hand_steps.specs.Hands.{NoneCounted}
-use Rattle.seat_steps.specs.{Floors.Stands, declared.floor.{Floor.Floor, Player.Player}}
+use Rattle.hand_steps.specs.seat_steps.specs.{Floors.Stands, declared.floor.{Floor.Floor, Player.Player}}
 use Rattle.turn_table.specs.Numbered.{Extends}
-use Rattle.volap_cell.specs.Values.{actor_of}
+use Rattle.hand_steps.specs.volap_cell.specs.Values.{actor_of}
 
 -- It does nothing, and has pushed no event.
 pub record HasGoneOn (f : Floor) (was now : Player) : Type 0 where

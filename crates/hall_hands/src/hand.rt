@@ -5,11 +5,11 @@ ghost use Rattle.hall_hands.specs.Hands.{BecomesHand, HasServedAll, IsHandRole};
 
 use crate::rounds::serve;
 use actor_run::{Hall, Pass};
-use seat_steps::Player;
+use hand_steps::seat_steps::Player;
+use hand_steps::volap_cell::Role;
 use std::alloc::Global;
 use std::marker::Model;
 use std::sync::Wait;
-use volap_cell::Role;
 use volap_io::Meet;
 
 /// A hand of a worker. Contracts see its hall, its pass's number, its worker and the history that it has seen, the newest event first.

@@ -5,3 +5,8 @@ mod hand;
 mod rounds;
 
 pub use hand::Hand;
+
+// What stands below is passed on.
+pub use actor_run;
+pub use actor_run::whole_steps;
+pub use hand_steps::seat_steps;

@@ -2,11 +2,11 @@
 ghost use Rattle.std.specs.Prelude.{◌≡◌, ◌<◌};
 ghost use Rattle.hall_hands.specs.Rounds.{HasFoundNobody, HasGoneRound};
 ghost use Rattle.hand_steps.specs.Hands.{IsIdleHand};
-ghost use Rattle.seat_steps.specs.Floors.{Stands};
+ghost use Rattle.hand_steps.specs.seat_steps.specs.Floors.{Stands};
 
 use actor_run::Hall;
+use hand_steps::seat_steps::Player;
 use hand_steps::{Found, serve_desk};
-use seat_steps::Player;
 use std::alloc::Global;
 use std::sync::Wait;
 use volap_io::Meet;

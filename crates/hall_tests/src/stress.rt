@@ -1,7 +1,7 @@
 //! Four sessions, two of each server, on a thread each.
 ghost use Rattle.std.specs.Prelude.{◌≡◌, IfOk, [], ◌∷◌, length};
-ghost use Rattle.actor_run.specs.Passes.{HasTaken, IsPassOf, IsPassesOf};
-ghost use Rattle.volap_cell.specs.declared.role.Role.TheVariants.{Session};
+ghost use Rattle.hall_calls.specs.actor_run.specs.Passes.{HasTaken, IsPassOf, IsPassesOf};
+ghost use Rattle.hall_calls.specs.volap_cell.specs.declared.role.Role.TheVariants.{Session};
 ghost use Rattle.std.specs.Thread.{IsSync};
 ghost use Rattle.hall_calls.specs.Passing.{CanWork, IsBack};
 
@@ -9,14 +9,14 @@ use crate::board::Board;
 use crate::judge::{Counts, judged};
 use crate::plan::{COMMANDS, Plan, ROUNDS, ROWS, hierarchy, plan_in};
 use crate::work::{Job, Report, work};
-use actor_run::{Hall, Pass, Passes};
+use hall_calls::actor_run::{Hall, Pass, Passes};
+use hall_calls::volap_cell::{Cell, Role, RoleList, State};
 use row_ledger::{Event, Use};
 use std::alloc::{AllocError, Global};
 use std::process::Abort;
 use std::sync::Wait;
 use std::test::Fail;
 use std::thread::{Threads, join};
-use volap_cell::{Cell, Role, RoleList, State};
 
 /// How often the test runs.
 const RUNS: u64 = 20;

@@ -1,24 +1,24 @@
 -- What is found on a desk, and what a hand becomes that takes a part there.
 use Rattle.std.proofs.{Common.{◌≡◌, ◌∙◌, ◌==◌, ℕ, ◌<◌, Bool, true, false, List, [], ◌∷◌, eqb-true, refl, sym, ap, subst, if◌then◌else◌, arith, ◌+◌}, lemmas.List.Folds.Any-from_list_any}
 use Rattle.std.specs.{List.list_any, Prelude.{IsSome, is_some, position}}
-use Rattle.core_due.proofs.BooksHeld.{take-prepared}
-use Rattle.core_due.specs.{Look.setting_by, Ready.IsStepAsked}
-use Rattle.core_shard.proofs.FinishReady.{first-place}
-use Rattle.core_steps.specs.Parts.{part_asks, part_kind, part_places}
-use Rattle.core_steps.specs.declared.parts.PartStep.TheVariants.{TakePart}
+use Rattle.session_steps.specs.core_due.proofs.BooksHeld.{take-prepared}
+use Rattle.session_steps.specs.core_due.specs.{Look.setting_by, Ready.IsStepAsked}
+use Rattle.session_steps.specs.core_shard.proofs.FinishReady.{first-place}
+use Rattle.session_steps.specs.core_steps.specs.Parts.{part_asks, part_kind, part_places}
+use Rattle.session_steps.specs.core_steps.specs.declared.parts.PartStep.TheVariants.{TakePart}
 use Rattle.dim_hierarchy.specs.Dimension.{Dimension}
 use Rattle.hand_steps.specs.Hands.{IsIdleHand, NoneCounted, found_on}
 use Rattle.hand_steps.specs.declared.hands.Found.TheVariants as found
 use Rattle.query_router.specs.{Desk.{DeskValue, waits_for}, declared.part.Part.Part}
 use Rattle.row_ledger.specs.declared.event.Event.{Event}
-use Rattle.seat_steps.proofs.{Around.{around, seen-there}, Since.as-before}
-use Rattle.seat_steps.specs.{Booked.{IsAsBefore, IsDue, IsUnchanged}, Floors.{IsAround, IsSeated, Stands}, Looks.Sees, Takes.GaveAll, declared.floor.{Floor.Floor, Player.Player}}
+use Rattle.session_steps.specs.seat_steps.proofs.{Around.{around, seen-there}, Since.as-before}
+use Rattle.session_steps.specs.seat_steps.specs.{Booked.{IsAsBefore, IsDue, IsUnchanged}, Floors.{IsAround, IsSeated, Stands}, Looks.Sees, Takes.GaveAll, declared.floor.{Floor.Floor, Player.Player}}
 use Rattle.turn_table.proofs.Numbered.{starts_self}
 use Rattle.turn_table.specs.{Numbered.{Extends, value_of}, Seat.cell_count}
-use Rattle.volap_cell.proofs.Cells.Numbers.{tag-desk}
-use Rattle.volap_cell.specs.{Cells.{cell_of, desk_in}, Kinds.Does, Numbering.tag_at, Setting.{Setting, desk_cell}, ShardKinds.{IsDeskFor, may_take}, Steps.Makes, Values.{ActorValue, actor_of}, World.{Change, World}, declared.role.Role.Role, declared.role.Role.TheVariants.Hand}
-use Rattle.volap_cell.specs.declared.kind.Kind.TheVariants as kind
-use Rattle.volap_turns.specs.Rows.{IsThere}
+use Rattle.session_steps.specs.volap_cell.proofs.Cells.Numbers.{tag-desk}
+use Rattle.session_steps.specs.volap_cell.specs.{Cells.{cell_of, desk_in}, Kinds.Does, Numbering.tag_at, Setting.{Setting, desk_cell}, ShardKinds.{IsDeskFor, may_take}, Steps.Makes, Values.{ActorValue, actor_of}, World.{Change, World}, declared.role.Role.Role, declared.role.Role.TheVariants.Hand}
+use Rattle.session_steps.specs.volap_cell.specs.declared.kind.Kind.TheVariants as kind
+use Rattle.session_steps.specs.volap_turns.specs.Rows.{IsThere}
 
 -- What is found.
 

@@ -3,13 +3,13 @@ use Rattle.std.proofs.Common.{◌≡◌, ◌∙◌, ℕ, true, false, [], Option
 use Rattle.hand_steps.specs.Hands.{HasDonePart, HasServed, HasTakenPart, NoneCounted}
 use Rattle.hand_steps.specs.declared.hands.Found.{Found}
 use Rattle.hand_steps.specs.declared.hands.Found.TheVariants as found
-use Rattle.part_steps.specs.Goings.{WentOn}
-use Rattle.seat_steps.proofs.Since.{extends-on}
-use Rattle.seat_steps.specs.{Booked.IsAsBefore, Floors.Stands, declared.floor.{Floor.Floor, Player.Player}}
+use Rattle.session_steps.specs.part_steps.specs.Goings.{WentOn}
+use Rattle.session_steps.specs.seat_steps.proofs.Since.{extends-on}
+use Rattle.session_steps.specs.seat_steps.specs.{Booked.IsAsBefore, Floors.Stands, declared.floor.{Floor.Floor, Player.Player}}
 use Rattle.session_steps.specs.Coming.{HasEmptied}
 use Rattle.turn_table.proofs.Numbered.{starts_self}
 use Rattle.turn_table.specs.Numbered.{Extends}
-use Rattle.volap_cell.specs.{ImageKinds.IsFree, Values.{ActorValue, actor_of, errand_of}}
+use Rattle.session_steps.specs.volap_cell.specs.{ImageKinds.IsFree, Values.{ActorValue, actor_of, errand_of}}
 
 -- The actor has gone on with its part from there.
 pub record IsAtPartSince (f : Floor) (start now : Player) : Type 0 where

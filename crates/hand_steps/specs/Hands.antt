@@ -1,14 +1,14 @@
 -- Hands: each takes the parts that wait for its worker, from the desks of all servers.
 use Rattle.std.specs.{List.list_any, Prelude.{ℕ, ◌≡◌, ◌==◌, if◌then◌else◌, IsSome, List, [], None}}
 use mathlib.Core.Option.{some}
-use Rattle.core_due.specs.Look.{setting_by}
+use Rattle.session_steps.specs.core_due.specs.Look.{setting_by}
 use Rattle.hand_steps.specs.declared.hands.Found.{Found}
 use Rattle.hand_steps.specs.declared.hands.Found.TheVariants as found
 use Rattle.query_router.specs.Desk.{DeskValue, waits_for}
 use Rattle.row_ledger.specs.declared.event.Event.{Event}
-use Rattle.seat_steps.specs.{Booked.IsAsBefore, Floors.{IsSeated, Stands}, declared.floor.{Floor.Floor, Player.Player}}
+use Rattle.session_steps.specs.seat_steps.specs.{Booked.IsAsBefore, Floors.{IsSeated, Stands}, declared.floor.{Floor.Floor, Player.Player}}
 use Rattle.turn_table.specs.Numbered.{Extends, value_of}
-use Rattle.volap_cell.specs.{Cells.{cell_of, desk_in}, ImageKinds.IsFree, Setting.desk_cell, Values.actor_of, declared.cell.Cell.Cell, declared.role.Role.TheVariants.Hand}
+use Rattle.session_steps.specs.volap_cell.specs.{Cells.{cell_of, desk_in}, ImageKinds.IsFree, Setting.desk_cell, Values.actor_of, declared.cell.Cell.Cell, declared.role.Role.TheVariants.Hand}
 
 -- A hand does nothing.
 pub record IsIdleHand (p : Player) : Type 0 where

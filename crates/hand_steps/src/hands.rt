@@ -1,25 +1,25 @@
 //! What a hand that does nothing looks for.
 ghost use Rattle.std.specs.Prelude.{ℕ, ◌≡◌, ◌<◌, [], ◌∷◌, Some};
 ghost use mathlib.Core.Option.{some};
-ghost use Rattle.core_steps.specs.Parts.{part_asks, part_places};
-ghost use Rattle.core_steps.specs.declared.parts.PartStep.TheVariants.{TakePart};
+ghost use Rattle.session_steps.specs.core_steps.specs.Parts.{part_asks, part_places};
+ghost use Rattle.session_steps.specs.core_steps.specs.declared.parts.PartStep.TheVariants.{TakePart};
 ghost use Rattle.hand_steps.specs.Hands.{HasFound, HasTakenPart, IsIdleHand, found_on};
-ghost use Rattle.seat_steps.specs.Booked.{IsDue, IsUnchanged};
-ghost use Rattle.seat_steps.specs.Floors.{IsSeated, Stands};
-ghost use Rattle.seat_steps.specs.Looks.{Sees};
-ghost use Rattle.seat_steps.specs.declared.floor.Player.{Player};
+ghost use Rattle.session_steps.specs.seat_steps.specs.Booked.{IsDue, IsUnchanged};
+ghost use Rattle.session_steps.specs.seat_steps.specs.Floors.{IsSeated, Stands};
+ghost use Rattle.session_steps.specs.seat_steps.specs.Looks.{Sees};
+ghost use Rattle.session_steps.specs.seat_steps.specs.declared.floor.Player.{Player};
 ghost use Rattle.turn_table.specs.Numbered.{value_of};
-ghost use Rattle.volap_cell.specs.Cells.{cell_of, desk_in};
-ghost use Rattle.volap_cell.specs.Values.{actor_of};
-ghost use Rattle.volap_cell.specs.declared.cell.Cell.{Cell};
-ghost use Rattle.volap_cell.specs.declared.role.Role.TheVariants.{Hand};
+ghost use Rattle.session_steps.specs.volap_cell.specs.Cells.{cell_of, desk_in};
+ghost use Rattle.session_steps.specs.volap_cell.specs.Values.{actor_of};
+ghost use Rattle.session_steps.specs.volap_cell.specs.declared.cell.Cell.{Cell};
+ghost use Rattle.session_steps.specs.volap_cell.specs.declared.role.Role.TheVariants.{Hand};
 
-use core_steps::{PartStep, desk_place};
 use query_router::Desk;
-use seat_steps::{Floor, Player, give_all, make, take_first};
+use session_steps::core_steps::{PartStep, desk_place};
+use session_steps::seat_steps::{Floor, Player, give_all, make, take_first};
+use session_steps::volap_cell::{Actor, Cell, Role};
 use std::alloc::Global;
 use std::sync::Wait;
-use volap_cell::{Actor, Cell, Role};
 
 /// The rank that is told for a desk.
 const DESK: u8 = 4;

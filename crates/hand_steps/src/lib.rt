@@ -6,3 +6,6 @@ mod serves;
 
 pub use hands::Found;
 pub use serves::serve_desk;
+
+// What stands below is passed on.
+pub use session_steps::{seat_steps, volap_cell};

@@ -1,13 +1,13 @@
 //! What a hand does at the desk of a server.
 ghost use Rattle.std.specs.Prelude.{◌≡◌, ◌<◌, IsSome, None};
 ghost use Rattle.hand_steps.specs.Hands.{HasDonePart, HasServed, IsIdleHand};
-ghost use Rattle.seat_steps.specs.Floors.{Stands};
-ghost use Rattle.volap_cell.specs.Values.{actor_of};
+ghost use Rattle.session_steps.specs.seat_steps.specs.Floors.{Stands};
+ghost use Rattle.session_steps.specs.volap_cell.specs.Values.{actor_of};
 
 use crate::hands::{Found, look_for_part};
-use part_steps::{Did, go_on_at_part};
-use seat_steps::{Floor, Player};
 use session_steps::empty_purse;
+use session_steps::part_steps::{Did, go_on_at_part};
+use session_steps::seat_steps::{Floor, Player};
 use std::alloc::Global;
 use std::sync::Wait;
 use volap_io::Meet;

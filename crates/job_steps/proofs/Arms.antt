@@ -1,17 +1,17 @@
 -- What an actor that holds cells for a step of its job has, and what its steps then come to.
 use Rattle.std.proofs.Common.{◌≡◌, ◌∙◌, ℕ, ◌<◌, ◌≤◌, List, [], ◌∷◌, ◌++◌, length, Option, Some, refl, sym, ap, subst, arith}
 use mathlib.Core.Option.{none}
-use Rattle.core_steps.specs.{Jobs.{job_places}, Places.numbers, declared.jobs.JobStep.JobStep}
-use Rattle.core_image.specs.NotesDue.{MayBeLeft}
+use Rattle.seat_steps.specs.core_steps.specs.{Jobs.{job_places}, Places.numbers, declared.jobs.JobStep.JobStep}
+use Rattle.seat_steps.specs.core_image.specs.NotesDue.{MayBeLeft}
 use Rattle.job_steps.specs.{Dues.{IsJobDue, LeadsTo, stopped}, Jobs.{CameTo, HasJobOpen, IsOfAdmin}}
 use Rattle.row_ledger.specs.declared.settings.How.{How}
 use Rattle.seat_steps.proofs.{Around.{still-sees, still-there}, Ranks.{order-more, order-none}, Since.{as-before, unchanged-on}, WithLedger.{due-at, held-below, next-cell}}
 use Rattle.seat_steps.specs.{Booked.{IsAsBefore, IsUnchanged}, Floors.{IsSeated, Stands}, Looks.lead_of, Takes.{GaveAll, TakesTurn}, declared.{floor.{Floor.Floor, Player.Player}, looks.Lead.Lead}}
 use Rattle.turn_table.proofs.Numbered.{starts_self}
 use Rattle.turn_table.specs.{Numbered.{Extends, numbers_of, value_of}, Seat.{IsInOrder, cell_count}}
-use Rattle.volap_cell.specs.{Cells.where_in, Commands.{EndsJob, EndsStage}, ImageKinds.doing, Values.{JobValue, actor_of}, declared.{actor.Actor.Actor, command.Work.Work}}
-use Rattle.volap_cell.specs.declared.command.Work.TheVariants as work_is
-use Rattle.volap_turns.specs.Rows.{AreAt}
+use Rattle.seat_steps.specs.volap_cell.specs.{Cells.where_in, Commands.{EndsJob, EndsStage}, ImageKinds.doing, Values.{JobValue, actor_of}, declared.{actor.Actor.Actor, command.Work.Work}}
+use Rattle.seat_steps.specs.volap_cell.specs.declared.command.Work.TheVariants as work_is
+use Rattle.seat_steps.specs.volap_turns.specs.Rows.{AreAt}
 
 -- where a held table leads is known still with one cell more
 pub leads-still : {cell : ℕ} {rank : Option ℕ} {was now : Player} → TakesTurn cell rank was now → (map shard : ℕ) (to : Lead) → LeadsTo was map shard to → LeadsTo now map shard to

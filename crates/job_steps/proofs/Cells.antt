@@ -8,8 +8,8 @@ use Rattle.seat_steps.proofs.{Around.{still-held, took-there}, Ranks.{order-more
 use Rattle.seat_steps.specs.{Takes.{IsSameActor, Takes, TakesTurn}, declared.floor.{Floor.Floor, Player.Player}}
 use Rattle.turn_table.proofs.Numbered.{find_append, find_append_second, find_else}
 use Rattle.turn_table.specs.{Numbered.value_of, Seat.{IsInOrder, free_rank}}
-use Rattle.volap_cell.specs.declared.cell.Cell.{Cell}
-use Rattle.volap_turns.specs.Rows.{IsThere}
+use Rattle.seat_steps.specs.volap_cell.specs.declared.cell.Cell.{Cell}
+use Rattle.seat_steps.specs.volap_turns.specs.Rows.{IsThere}
 
 -- Ranks.
 

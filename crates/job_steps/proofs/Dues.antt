@@ -3,15 +3,15 @@
 use Rattle.std.proofs.Common.{◌≡◌, ◌≢◌, ◌∙◌, ℕ, ◌+◌, ◌-◌, ◌<◌, ◌==◌, Bool, true, false, List, [], length, Option, Some, None, if◌then◌else◌, refl, sym, ap, subst, arith, eq-eqb, ne_eqb}
 use Rattle.std.specs.{Option.option_map_or, Prelude.{Ok, is_none, option_and_then, option_map, slice_get}}
 use Rattle.cell_stock.specs.declared.purse.Spare.{Spare}
-use Rattle.core_due.proofs.JobCells.{one-gate}
-use Rattle.core_due.specs.{Due.{desk_of, work_kind}, Look.setting_by, Spares.{last_spare, spare_before}, Splits.split_of, Wants.{gate_awaited, is_drained, last_noted}, WorkLaws.{WorkAskedLaw, WorkKindLaw, WorkPreparedLaw}}
-use Rattle.core_due.specs.{Works.{action_due, balance_due, build_due, collect_by, finish_due, freeze_at, has_more, jobless_due, load_at, load_due, move_due, move_with, or_declined, stage_due, work_due, work_due_kind}, WorksReady.{AreBytes, IsInsteadPrepared, IsJobInstead, IsJobPrepared, IsNotePrepared, IsSplitPrepared, IsWorkPrepared}, declared.works.WorkDue.WorkDue}
-use Rattle.core_due.specs.declared.works.WorkDue.TheVariants.{Ends, Jobs, Leaves, Splits}
-use Rattle.core_steps.specs.declared.jobs.JobStep.{JobStep}
-use Rattle.core_steps.specs.declared.jobs.JobStep.TheVariants as job
-use Rattle.core_steps.specs.declared.notes.NoteStep.TheVariants as note
+use Rattle.seat_steps.specs.core_due.proofs.JobCells.{one-gate}
+use Rattle.seat_steps.specs.core_due.specs.{Due.{desk_of, work_kind}, Look.setting_by, Spares.{last_spare, spare_before}, Splits.split_of, Wants.{gate_awaited, is_drained, last_noted}, WorkLaws.{WorkAskedLaw, WorkKindLaw, WorkPreparedLaw}}
+use Rattle.seat_steps.specs.core_due.specs.{Works.{action_due, balance_due, build_due, collect_by, finish_due, freeze_at, has_more, jobless_due, load_at, load_due, move_due, move_with, or_declined, stage_due, work_due, work_due_kind}, WorksReady.{AreBytes, IsInsteadPrepared, IsJobInstead, IsJobPrepared, IsNotePrepared, IsSplitPrepared, IsWorkPrepared}, declared.works.WorkDue.WorkDue}
+use Rattle.seat_steps.specs.core_due.specs.declared.works.WorkDue.TheVariants.{Ends, Jobs, Leaves, Splits}
+use Rattle.seat_steps.specs.core_steps.specs.declared.jobs.JobStep.{JobStep}
+use Rattle.seat_steps.specs.core_steps.specs.declared.jobs.JobStep.TheVariants as job
+use Rattle.seat_steps.specs.core_steps.specs.declared.notes.NoteStep.TheVariants as note
 use Rattle.job_steps.specs.{Dues.{IsAtJob, IsJobDue, IsToBuild, IsToCollect, IsToDrain, IsToFinish, IsToFreeze, IsToRead, LeadsTo}, Jobs.IsOfAdmin}
-use Rattle.link_descent.specs.declared.entered.Fresh.{Fresh}
+use Rattle.seat_steps.specs.link_descent.specs.declared.entered.Fresh.{Fresh}
 use Rattle.list_words.proofs.Elements.{Some-same}
 use Rattle.mapping_table.specs.declared.place.Where.{Where}
 use Rattle.query_router.specs.Desk.{DeskValue}
@@ -23,9 +23,9 @@ use Rattle.seat_steps.specs.{Floors.{IsAround, IsSeated}, Looks.{Sees, lead_of},
 use Rattle.seat_steps.specs.declared.looks.Lead.TheVariants as lead
 use Rattle.shard_plan.specs.declared.action.Action.{Action}
 use Rattle.turn_table.specs.Seat.{cell_count}
-use Rattle.volap_cell.specs.{AdminKinds.HasJob, Cells.{active_in, phase_of, where_in}, Commands.MayNoteEnd, ImageKinds.doing, Setting.{Setting, map_cell}, State.Has, Steps.history_in, Values.{ActorValue, BuildingValue, Builds, CollectingValue, Collects, IsCalled, IsFrozen, JobValue, StageValue, actor_of}, Working.frozen_in, World.World, declared.{command.{Balance.Balance, Command.Command, Work.Work}, job.Frozen.Frozen, kind.Kind.Kind}}
-use Rattle.volap_cell.specs.declared.command.Work.TheVariants as work_is
-use Rattle.volap_turns.specs.Rows.{IsThere}
+use Rattle.seat_steps.specs.volap_cell.specs.{AdminKinds.HasJob, Cells.{active_in, phase_of, where_in}, Commands.MayNoteEnd, ImageKinds.doing, Setting.{Setting, map_cell}, State.Has, Steps.history_in, Values.{ActorValue, BuildingValue, Builds, CollectingValue, Collects, IsCalled, IsFrozen, JobValue, StageValue, actor_of}, Working.frozen_in, World.World, declared.{command.{Balance.Balance, Command.Command, Work.Work}, job.Frozen.Frozen, kind.Kind.Kind}}
+use Rattle.seat_steps.specs.volap_cell.specs.declared.command.Work.TheVariants as work_is
+use Rattle.seat_steps.specs.volap_turns.specs.Rows.{IsThere}
 
 -- An actor that has such a command open, by what it is alone.
 pub record IsOpenAt (f : Floor) (a : ActorValue) : Type 0 where

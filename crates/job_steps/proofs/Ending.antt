@@ -1,8 +1,8 @@
 -- What the steps come to by which an action is done: the newest event, and the one before it where the command ends too.
 use Rattle.std.proofs.Common.{◌≡◌, ◌∙◌, ℕ, ◌+◌, ◌<◌, true, false, List, [], ◌∷◌, ◌++◌, length, Option, Some, None, refl, sym, ap, subst}
 use Rattle.std.specs.Prelude.{⊤, option_and_then}
-use Rattle.core_steps.specs.{Jobs.{job_kind, job_places}, Places.numbers, declared.jobs.JobStep.JobStep}
-use Rattle.core_steps.specs.declared.jobs.JobStep.TheVariants as job
+use Rattle.seat_steps.specs.core_steps.specs.{Jobs.{job_kind, job_places}, Places.numbers, declared.jobs.JobStep.JobStep}
+use Rattle.seat_steps.specs.core_steps.specs.declared.jobs.JobStep.TheVariants as job
 use Rattle.job_steps.proofs.Made.{IsActorNow, actor-now}
 use Rattle.job_steps.specs.{Dues.{IsEnd, over_by}, Jobs.{CameTo, HasEndedAction, HasJobOpen, HasPassed, IsOutcome, always}}
 use Rattle.row_ledger.specs.{Past.{event_at, session_in}, Right.IsRight, declared.event.Event.Event}
@@ -14,9 +14,9 @@ use Rattle.seat_steps.proofs.{Around.around, HeldLedger.{HasSeenAll, changed, do
 use Rattle.seat_steps.specs.{Booked.{HasPushed, IsUnchanged}, Floors.{IsAround, IsSeated, Stands}, Made.HasMade, declared.floor.{Floor.Floor, Player.Player}}
 use Rattle.turn_table.proofs.Numbered.{find_same}
 use Rattle.turn_table.specs.{Numbered.Extends, Views.seen_of}
-use Rattle.volap_cell.specs.{AdminKinds.{Finishes, PushesBoth}, Commands.after_action, ImageKinds.{doing}, Planning.next_job, Setting.{Setting, ledger_cell, registry_cell, site_in, stock_cell}, Values.{ActorValue, JobValue, actor_of}, World.{Change, World}, declared.command.{Command.Command, Work.Work}}
-use Rattle.volap_cell.specs.declared.command.Work.TheVariants as work_is
-use Rattle.volap_turns.specs.{Rows.{AreAt, IsThere}, Rule.history_of}
+use Rattle.seat_steps.specs.volap_cell.specs.{AdminKinds.{Finishes, PushesBoth}, Commands.after_action, ImageKinds.{doing}, Planning.next_job, Setting.{Setting, ledger_cell, registry_cell, site_in, stock_cell}, Values.{ActorValue, JobValue, actor_of}, World.{Change, World}, declared.command.{Command.Command, Work.Work}}
+use Rattle.seat_steps.specs.volap_cell.specs.declared.command.Work.TheVariants as work_is
+use Rattle.seat_steps.specs.volap_turns.specs.{Rows.{AreAt, IsThere}, Rule.history_of}
 
 module _ (f : Floor) (p : Player) {mid now : Player} (same : IsUnchanged p mid) (has : HasJobOpen p) (seated : IsSeated f mid) (stands : Stands f now) (step : JobStep) (at : AreAt (job_places step) mid.seat.view.held)
     (made : HasMade f.hierarchy (job_kind step) (λ s w n. ⊤) (λ a was now. ⊤) (job_places step) mid now) where

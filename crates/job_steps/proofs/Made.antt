@@ -2,9 +2,9 @@
 use Rattle.std.proofs.Common.{◌≡◌, ◌∙◌, ℕ, ◌<◌, ◌≤◌, false, List, [], ◌∷◌, length, Option, Some, None, inl, inr, refl, sym, ap, subst, arith, length-append}
 use Rattle.std.specs.Prelude.{⊤}
 use Rattle.cell_stock.specs.declared.purse.Spare.{Spare}
-use Rattle.core_due.specs.Ready.{IsLendable}
-use Rattle.core_steps.specs.{Jobs.{job_asks, job_kind, job_places}, Places.{numbers, values}, declared.jobs.JobStep.JobStep}
-use Rattle.core_steps.specs.declared.jobs.JobStep.TheVariants as job
+use Rattle.seat_steps.specs.core_due.specs.Ready.{IsLendable}
+use Rattle.seat_steps.specs.core_steps.specs.{Jobs.{job_asks, job_kind, job_places}, Places.{numbers, values}, declared.jobs.JobStep.JobStep}
+use Rattle.seat_steps.specs.core_steps.specs.declared.jobs.JobStep.TheVariants as job
 use Rattle.dim_hierarchy.specs.Dimension.{Dimension}
 use Rattle.job_steps.specs.{Dues.{IsAtJob, IsJobDue, IsQuiet, over_by}, Jobs.{CameTo, GoesOnWithJob, HasEndedAction, HasJobOpen, HasPassed, IsFurtherJob, always}}
 use Rattle.list_words.proofs.Elements.{Some-same}
@@ -15,10 +15,10 @@ use Rattle.row_ledger.specs.declared.settings.How.TheVariants as how
 use Rattle.seat_steps.proofs.{Around.{around, asked-held, within}, HeldLedger.{changed, does-held, newest}, Since.{extends-on, pushed-since}}
 use Rattle.seat_steps.specs.{Booked.{HasBooked, IsUnchanged}, Floors.{AreTold, IsSeated, Stands, kept_on}, Made.{HasMade, IsKeptBy}, declared.floor.{Floor.Floor, Player.Player}}
 use Rattle.turn_table.specs.{Numbered.{Extends, after_first}, Seat.cell_count}
-use Rattle.volap_cell.specs.{AdminKinds.{DoesPostpone, Finishes, GivesUp}, Commands.after_action, Errands.way_of, ImageKinds.{Pushes, doing}, Kinds.Does, Planning.next_job, Setting.{ledger_cell, stock_cell}, ShardKinds.{ReadsLoad}, Values.{ActorValue, ErrandValue, JobValue, actor_of}, World.{Change}, declared.{actor.Actor.Actor, command.{Command.Command, Work.Work}}}
-use Rattle.volap_cell.specs.declared.kind.Kind.TheVariants as kind
-use Rattle.volap_cell.specs.declared.command.Work.TheVariants as work_is
-use Rattle.volap_turns.specs.Rows.{AreAt, IsThere, cells_for}
+use Rattle.seat_steps.specs.volap_cell.specs.{AdminKinds.{DoesPostpone, Finishes, GivesUp}, Commands.after_action, Errands.way_of, ImageKinds.{Pushes, doing}, Kinds.Does, Planning.next_job, Setting.{ledger_cell, stock_cell}, ShardKinds.{ReadsLoad}, Values.{ActorValue, ErrandValue, JobValue, actor_of}, World.{Change}, declared.{actor.Actor.Actor, command.{Command.Command, Work.Work}}}
+use Rattle.seat_steps.specs.volap_cell.specs.declared.kind.Kind.TheVariants as kind
+use Rattle.seat_steps.specs.volap_cell.specs.declared.command.Work.TheVariants as work_is
+use Rattle.seat_steps.specs.volap_turns.specs.Rows.{AreAt, IsThere, cells_for}
 
 -- How many cells a step has.
 pub job-few : (step : JobStep) → (0 < length (numbers (job_places step))) × (length (numbers (job_places step)) ≤ 7)

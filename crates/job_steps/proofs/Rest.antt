@@ -3,8 +3,8 @@
 use Rattle.std.proofs.Common.{◌≡◌, ◌≢◌, ℕ, ◌+◌, ◌<◌, ◌≤◌, List, [], ◌∷◌, ◌++◌, length, Option, None, sym, ap, subst, arith}
 use Rattle.std.specs.Prelude.{⊤}
 use mathlib.Core.Option.{none}
-use Rattle.core_due.specs.Ready.{IsLendable}
-use Rattle.core_steps.specs.{Jobs.job_places, Places.numbers, declared.jobs.JobStep.JobStep}
+use Rattle.seat_steps.specs.core_due.specs.Ready.{IsLendable}
+use Rattle.seat_steps.specs.core_steps.specs.{Jobs.job_places, Places.numbers, declared.jobs.JobStep.JobStep}
 use Rattle.job_steps.proofs.Cells.{takes-one}
 use Rattle.job_steps.specs.{Dues.IsJobDue, Turns.{AreInOrder, IsBehind, MayTake, TakesSome}}
 use Rattle.list_words.proofs.Each.{each-both, each-here, each-left, each-map, each-right}
@@ -12,8 +12,8 @@ use Rattle.list_words.specs.Counts.{Each}
 use Rattle.seat_steps.proofs.{Around.{around, within}, Ranks.order-none, Since.{nothing-held, nothing-told}}
 use Rattle.seat_steps.specs.{Floors.{IsSeated, Stands}, Takes.Takes, declared.floor.{Floor.Floor, Player.Player}}
 use Rattle.turn_table.specs.{Numbered.value_of, Seat.{IsInOrder, cell_count}}
-use Rattle.volap_cell.specs.{State.AreDifferent, Values.actor_of, declared.cell.Cell.Cell}
-use Rattle.volap_turns.specs.Rows.{AreAt}
+use Rattle.seat_steps.specs.volap_cell.specs.{State.AreDifferent, Values.actor_of, declared.cell.Cell.Cell}
+use Rattle.seat_steps.specs.volap_turns.specs.Rows.{AreAt}
 
 -- Numbers that are apart.
 

@@ -3,22 +3,22 @@
 use Rattle.std.proofs.{Common.{◌≡◌, ◌≢◌, ◌∙◌, ℕ, zero, suc, ◌+◌, ◌<◌, ◌≤◌, cond, get_or, IsSome, List, [], ◌∷◌, ◌++◌, length, slice_get, Option, Some, None, inl, inr, refl, sym, ap, subst, arith}, lemmas.{Bool.cases_lt, Option.slice_get-get_or}}
 use Rattle.std.specs.Prelude.{⊤, true}
 use mathlib.Core.Option.{none}
-use Rattle.core_admin.proofs.{Collecting.FrozenGates.phase-gate, Reusing.FreesCells.in-tree}
-use Rattle.core_due.proofs.{Holding.{CanHold, CanHoldAll, hold-one, prepared}, LastItems.{found-last, found-none}, Owned.{gate-low, lend-block, lend-gate, tree-owned}, Released.released-is}
-use Rattle.core_due.specs.{Reuses.{is_released, reuse_by}, ReuseLaws.IsReusePrepared}
-use Rattle.core_steps.specs.{Places.{numbers, values}, Reuses.{reuse_asks, reuse_places}, declared.reuses.ReuseStep.ReuseStep}
-use Rattle.core_steps.specs.declared.reuses.ReuseStep.TheVariants as reuse
+use Rattle.seat_steps.specs.core_admin.proofs.{Collecting.FrozenGates.phase-gate, Reusing.FreesCells.in-tree}
+use Rattle.seat_steps.specs.core_due.proofs.{Holding.{CanHold, CanHoldAll, hold-one, prepared}, LastItems.{found-last, found-none}, Owned.{gate-low, lend-block, lend-gate, tree-owned}, Released.released-is}
+use Rattle.seat_steps.specs.core_due.specs.{Reuses.{is_released, reuse_by}, ReuseLaws.IsReusePrepared}
+use Rattle.seat_steps.specs.core_steps.specs.{Places.{numbers, values}, Reuses.{reuse_asks, reuse_places}, declared.reuses.ReuseStep.ReuseStep}
+use Rattle.seat_steps.specs.core_steps.specs.declared.reuses.ReuseStep.TheVariants as reuse
 use Rattle.dim_hierarchy.specs.Dimension.{Dimension}
 use Rattle.job_steps.specs.Reuses.{IsBetween, IsReleasedAt, IsReuseDue, WasInUse, after_reuse, last_gone}
 use Rattle.list_words.proofs.{Elements.Some-same, Times.{among-times, same_is, times-append}}
 use Rattle.list_words.specs.Counts.{Among, Each, times}
 use Rattle.seat_steps.proofs.{Around.{around, asked-held, seen-there, still-sees, still-there, within}, HeldLedger.does-held, WithLedger.{due-at, next-cell}}
 use Rattle.seat_steps.specs.{Booked.IsUnchanged, Floors.{AreTold, IsAround, IsSeated, kept_on}, Made.{HasMade, IsKeptBy}, Takes.TakesTurn, declared.floor.{Floor.Floor, Player.Player}}
-use Rattle.shard_store.specs.declared.gate.{Phase.Phase, Phase.TheVariants.{Frozen, Gone, Open}}
+use Rattle.seat_steps.specs.shard_store.specs.declared.gate.{Phase.Phase, Phase.TheVariants.{Frozen, Gone, Open}}
 use Rattle.turn_table.specs.{Numbered.{after_first, numbers_of, value_of}, Seat.cell_count}
-use Rattle.volap_cell.proofs.{Cells.Holding.carries, Persons.has-role}
-use Rattle.volap_cell.specs.{Cells.{CellValue, TheStock, gate_shard, gone_in, phase_of, pins_in}, Errands.way_of, Ghost.{AGate, Ghost, InTree}, Invariant.InvWith, Kinds.Does, Reusing.is_gone, Setting.{Setting, actor_count, stock_cell}, Steps.Inv, Values.{ActorValue, ErrandValue, actor_of}, View.{View, view}, World.{Change, MustKeep, World}, declared.{kind.Kind.TheVariants.Reuse, role.Role.TheVariants.{Admin, Hand}}}
-use Rattle.volap_turns.specs.Rows.{AreAt, cells_for}
+use Rattle.seat_steps.specs.volap_cell.proofs.{Cells.Holding.carries, Persons.has-role}
+use Rattle.seat_steps.specs.volap_cell.specs.{Cells.{CellValue, TheStock, gate_shard, gone_in, phase_of, pins_in}, Errands.way_of, Ghost.{AGate, Ghost, InTree}, Invariant.InvWith, Kinds.Does, Reusing.is_gone, Setting.{Setting, actor_count, stock_cell}, Steps.Inv, Values.{ActorValue, ErrandValue, actor_of}, View.{View, view}, World.{Change, MustKeep, World}, declared.{kind.Kind.TheVariants.Reuse, role.Role.TheVariants.{Admin, Hand}}}
+use Rattle.seat_steps.specs.volap_turns.specs.Rows.{AreAt, cells_for}
 
 -- Lists.
 

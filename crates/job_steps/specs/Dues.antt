@@ -1,17 +1,17 @@
 -- What the steps of jobs ask in whatever state the seat may be.
 use Rattle.std.specs.Prelude.{ℕ, ◌≡◌, ◌-◌, ⊤, [], length, Option, Some, None, option_map, slice_get}
-use Rattle.core_due.specs.{Look.setting_by, Wants.last_noted, WorksReady.AreBytes}
-use Rattle.core_steps.specs.{Jobs.{job_asks, job_places}, declared.jobs.JobStep.JobStep}
-use Rattle.core_steps.specs.declared.jobs.JobStep.TheVariants as job
+use Rattle.seat_steps.specs.core_due.specs.{Look.setting_by, Wants.last_noted, WorksReady.AreBytes}
+use Rattle.seat_steps.specs.core_steps.specs.{Jobs.{job_asks, job_places}, declared.jobs.JobStep.JobStep}
+use Rattle.seat_steps.specs.core_steps.specs.declared.jobs.JobStep.TheVariants as job
 use Rattle.job_steps.specs.{Jobs.HasJobOpen, declared.steps.JobDid.JobDid}
 use Rattle.job_steps.specs.declared.steps.JobDid.TheVariants as did
-use Rattle.link_descent.specs.declared.entered.Fresh.{Fresh}
+use Rattle.seat_steps.specs.link_descent.specs.declared.entered.Fresh.{Fresh}
 use Rattle.row_ledger.specs.declared.settings.How.{How}
 use Rattle.seat_steps.specs.{Booked.IsDue, Looks.{Sees, lead_of}, declared.{floor.{Floor.Floor, Player.Player}, looks.Lead.Lead}}
-use Rattle.volap_cell.specs.{AdminKinds.HasJob, Cells.where_in, Setting.map_cell, Values.{ActorValue, Builds, BuildingValue, CollectingValue, Collects, IsCalled, IsFrozen, JobValue, actor_of}, declared.{command.{Balance.Balance, Command.Command, Work.Work}, job.Frozen.Frozen}}
-use Rattle.volap_cell.specs.{ImageKinds.doing}
-use Rattle.volap_cell.specs.declared.command.Work.TheVariants as work_is
-use Rattle.volap_turns.specs.Rows.{IsThere}
+use Rattle.seat_steps.specs.volap_cell.specs.{AdminKinds.HasJob, Cells.where_in, Setting.map_cell, Values.{ActorValue, Builds, BuildingValue, CollectingValue, Collects, IsCalled, IsFrozen, JobValue, actor_of}, declared.{command.{Balance.Balance, Command.Command, Work.Work}, job.Frozen.Frozen}}
+use Rattle.seat_steps.specs.volap_cell.specs.{ImageKinds.doing}
+use Rattle.seat_steps.specs.volap_cell.specs.declared.command.Work.TheVariants as work_is
+use Rattle.seat_steps.specs.volap_turns.specs.Rows.{IsThere}
 use Rattle.shard_plan.specs.declared.action.Load.{Load}
 
 -- such a command is open, whose numbers are bytes

@@ -1,6 +1,6 @@
 -- The administrator's splits, moves and balances: what is open, how far it comes, and how it ends. The newest event comes first.
 use Rattle.std.specs.Prelude.{ℕ, ◌≡◌, ◌≤◌, ⊤, Bool, true, false, List, [], ◌∷◌, length, Option, Some, None}
-use Rattle.core_image.specs.NotesDue.{MayBeLeft}
+use Rattle.seat_steps.specs.core_image.specs.NotesDue.{MayBeLeft}
 use Rattle.job_steps.specs.declared.steps.JobDid.{JobDid}
 use Rattle.job_steps.specs.declared.steps.JobDid.TheVariants as did
 use Rattle.row_ledger.specs.declared.{event.Event.Event, settings.How.How}
@@ -8,8 +8,8 @@ use Rattle.row_ledger.specs.declared.event.Event.TheVariants as event
 use Rattle.row_ledger.specs.declared.settings.How.TheVariants as how
 use Rattle.seat_steps.specs.{Booked.{HasPushed, IsAsBefore}, Floors.Stands, declared.floor.{Floor.Floor, Player.Player}}
 use Rattle.turn_table.specs.Numbered.{Extends}
-use Rattle.volap_cell.specs.{Commands.{MayNoteEnd, after_action}, ImageKinds.doing, Planning.next_job, Values.{ActorValue, JobValue, actor_of}, declared.command.{Balance.Balance, Work.Work}}
-use Rattle.volap_cell.specs.declared.command.Work.TheVariants as work_is
+use Rattle.seat_steps.specs.volap_cell.specs.{Commands.{MayNoteEnd, after_action}, ImageKinds.doing, Planning.next_job, Values.{ActorValue, JobValue, actor_of}, declared.command.{Balance.Balance, Work.Work}}
+use Rattle.seat_steps.specs.volap_cell.specs.declared.command.Work.TheVariants as work_is
 
 -- What is open.
 

@@ -1,12 +1,12 @@
 -- Cells of gates that are gone, which the administrator uses again between two commands, one at a time.
 use Rattle.std.specs.Prelude.{ℕ, ◌≡◌, ◌-◌, ⊤, true, false, length, slice_get, Option, None}
-use Rattle.core_due.specs.Reuses.{is_released}
-use Rattle.core_steps.specs.{Reuses.{reuse_asks, reuse_places}, declared.reuses.ReuseStep.ReuseStep}
-use Rattle.core_steps.specs.declared.reuses.ReuseStep.TheVariants as reuse
+use Rattle.seat_steps.specs.core_due.specs.Reuses.{is_released}
+use Rattle.seat_steps.specs.core_steps.specs.{Reuses.{reuse_asks, reuse_places}, declared.reuses.ReuseStep.ReuseStep}
+use Rattle.seat_steps.specs.core_steps.specs.declared.reuses.ReuseStep.TheVariants as reuse
 use Rattle.seat_steps.specs.{Booked.{IsDue, IsUnchanged}, Floors.{IsSeated, Stands}, Looks.Sees, Made.HasMade, declared.floor.{Floor.Floor, Player.Player}}
 use Rattle.turn_table.specs.Numbered.{Extends}
-use Rattle.volap_cell.specs.{Cells.{CellValue, gone_in}, Reusing.without_gate, Values.{ActorValue, actor_of}, declared.{kind.Kind.TheVariants.Reuse, role.Role.TheVariants.Admin}}
-use Rattle.volap_turns.specs.Rows.{AreAt, IsThere}
+use Rattle.seat_steps.specs.volap_cell.specs.{Cells.{CellValue, gone_in}, Reusing.without_gate, Values.{ActorValue, actor_of}, declared.{kind.Kind.TheVariants.Reuse, role.Role.TheVariants.Admin}}
+use Rattle.seat_steps.specs.volap_turns.specs.Rows.{AreAt, IsThere}
 
 -- the administrator is between two commands
 pub record IsBetween (p : Player) : Type 0 where

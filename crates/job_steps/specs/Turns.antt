@@ -4,8 +4,8 @@ use mathlib.Core.Option.{none, some}
 use Rattle.list_words.specs.Counts.{Each}
 use Rattle.seat_steps.specs.{Takes.IsSameActor, declared.floor.{Floor.Floor, Player.Player}}
 use Rattle.turn_table.specs.{Numbered.value_of, Seat.{IsInOrder, cell_count}}
-use Rattle.volap_cell.specs.{State.AreDifferent, declared.cell.Cell.Cell}
-use Rattle.volap_turns.specs.Rows.{IsThere}
+use Rattle.seat_steps.specs.volap_cell.specs.{State.AreDifferent, declared.cell.Cell.Cell}
+use Rattle.seat_steps.specs.volap_turns.specs.Rows.{IsThere}
 
 -- these cells are there, and there is room to hold them besides
 pub record MayTake (f : Floor) (p : Player) (ys : List ℕ) : Type 0 where

@@ -7,16 +7,16 @@ ghost use Rattle.seat_steps.specs.Booked.{IsUnchanged};
 ghost use Rattle.seat_steps.specs.Floors.{IsSeated, Stands};
 ghost use Rattle.seat_steps.specs.declared.floor.Player.{Player};
 ghost use Rattle.seat_steps.specs.declared.looks.Lead.TheVariants as lead;
-ghost use Rattle.volap_cell.specs.Values.{actor_of};
+ghost use Rattle.seat_steps.specs.volap_cell.specs.Values.{actor_of};
 
 use crate::steps::{GATE, JobDid, TABLE, make_job};
-use core_due::{map_at, works_can_be_made};
-use core_steps::JobStep;
 use row_ledger::{Decline, How};
+use seat_steps::core_due::{map_at, works_can_be_made};
+use seat_steps::core_steps::JobStep;
+use seat_steps::volap_cell::{Balance, Work, there};
 use seat_steps::{Floor, Lead, Player, give_all, lead_at, take, take_first};
 use std::alloc::Global;
 use std::sync::Wait;
-use volap_cell::{Balance, Work, there};
 
 /// What is due without a job: a balance reads the next load, or ends once nothing is left of its plan; the shard of a split
 /// or a move, or the worker that it was to go to, didn't stand.

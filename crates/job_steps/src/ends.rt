@@ -1,16 +1,16 @@
 //! How splits and moves are done, once every new block is in its cell.
 ghost use Rattle.std.specs.Prelude.{◌≡◌, None, Some};
-ghost use Rattle.core_due.specs.Spares.{last_spare, spare_before};
-ghost use Rattle.core_steps.specs.declared.jobs.JobStep.TheVariants as job;
+ghost use Rattle.seat_steps.specs.core_due.specs.Spares.{last_spare, spare_before};
+ghost use Rattle.seat_steps.specs.core_steps.specs.declared.jobs.JobStep.TheVariants as job;
 ghost use Rattle.job_steps.specs.Dues.{IsAtJob, IsJobDueAnyhow, IsToFinish};
 ghost use Rattle.job_steps.specs.Jobs.{CameTo, HasJobOpen};
 ghost use Rattle.seat_steps.specs.Floors.{Stands};
-ghost use Rattle.volap_cell.specs.Values.{JobValue, actor_of};
+ghost use Rattle.seat_steps.specs.volap_cell.specs.Values.{JobValue, actor_of};
 
 use crate::steps::{GATE, JobDid, TABLE, make_end};
 use crate::turns::{take_books, take_three, take_two};
-use core_due::{last_two, works_can_be_made};
-use core_steps::JobStep;
+use seat_steps::core_due::{last_two, works_can_be_made};
+use seat_steps::core_steps::JobStep;
 use seat_steps::{Floor, Player, take_first};
 use std::alloc::Global;
 use std::sync::Wait;

@@ -1,29 +1,29 @@
 //! The step that is due for the split, the move or the balance that the administrator has open.
 ghost use Rattle.std.specs.Prelude.{ℕ, ◌≡◌, [], ◌∷◌, IsSome, None, Some, option_map};
-ghost use Rattle.core_due.specs.Look.{setting_by};
-ghost use Rattle.core_due.specs.Works.{collect_by};
+ghost use Rattle.seat_steps.specs.core_due.specs.Look.{setting_by};
+ghost use Rattle.seat_steps.specs.core_due.specs.Works.{collect_by};
 ghost use Rattle.job_steps.specs.Dues.{IsAtJob, IsToBuild, IsToCollect, IsToDrain, IsToFreeze, LeadsTo, last_unbuilt, stopped};
 ghost use Rattle.job_steps.specs.Jobs.{CameTo, HasJobOpen};
 ghost use Rattle.seat_steps.specs.Booked.{IsUnchanged};
 ghost use Rattle.seat_steps.specs.Floors.{IsSeated, Stands};
 ghost use Rattle.seat_steps.specs.declared.floor.Player.{Player};
 ghost use Rattle.seat_steps.specs.declared.looks.Lead.TheVariants as lead;
-ghost use Rattle.volap_cell.specs.ImageKinds.{doing};
-ghost use Rattle.volap_cell.specs.Setting.{map_cell};
-ghost use Rattle.volap_cell.specs.Values.{actor_of, building_of};
-ghost use Rattle.volap_cell.specs.declared.command.Work.{Work};
+ghost use Rattle.seat_steps.specs.volap_cell.specs.ImageKinds.{doing};
+ghost use Rattle.seat_steps.specs.volap_cell.specs.Setting.{map_cell};
+ghost use Rattle.seat_steps.specs.volap_cell.specs.Values.{actor_of, building_of};
+ghost use Rattle.seat_steps.specs.volap_cell.specs.declared.command.Work.{Work};
 
 use crate::balances::go_on_without_job;
 use crate::ends::finish;
 use crate::looks::{has_more_at, is_drained_at};
 use crate::steps::{BLOCK, GATE, JobDid, STOCK, TABLE, make_job, make_or_give_up};
-use core_due::{last_noted, map_at, tell_bytes, works_can_be_made};
-use core_steps::{JobStep, stock_place};
 use row_ledger::How;
+use seat_steps::core_due::{last_noted, map_at, tell_bytes, works_can_be_made};
+use seat_steps::core_steps::{JobStep, stock_place};
+use seat_steps::volap_cell::{Building, Stage, Work, there};
 use seat_steps::{Floor, Lead, Player, give_all, lead_at, take, take_first};
 use std::alloc::Global;
 use std::sync::Wait;
-use volap_cell::{Building, Stage, Work, there};
 
 /// The actor goes on with its split, its move or its balance by one step, for which it waits for the turns of the cells.
 /// Where it finds no memory before the shard is frozen, the command is due to end so, or the balance to leave the action;

@@ -32,3 +32,6 @@ mod turns;
 pub use jobs::go_on_with_job;
 pub use reuses::reuse_cell;
 pub use steps::JobDid;
+
+// What stands below is passed on.
+pub use seat_steps;

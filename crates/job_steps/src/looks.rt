@@ -1,18 +1,18 @@
 //! What is seen at a gate that the administrator holds.
 ghost use Rattle.std.specs.Prelude.{◌≡◌, ◌==◌};
 ghost use mathlib.Core.Option.{some};
-ghost use Rattle.core_due.specs.Reuses.{is_released};
-ghost use Rattle.core_due.specs.Works.{has_more};
+ghost use Rattle.seat_steps.specs.core_due.specs.Reuses.{is_released};
+ghost use Rattle.seat_steps.specs.core_due.specs.Works.{has_more};
 ghost use Rattle.job_steps.specs.Reuses.{last_gone};
 ghost use Rattle.seat_steps.specs.Floors.{IsSeated};
 ghost use Rattle.seat_steps.specs.Looks.{Sees};
 ghost use Rattle.turn_table.specs.Numbered.{value_of};
-ghost use Rattle.volap_cell.specs.Cells.{active_in, cell_of, phase_of};
-ghost use Rattle.volap_cell.specs.declared.cell.Cell.{Cell};
+ghost use Rattle.seat_steps.specs.volap_cell.specs.Cells.{active_in, cell_of, phase_of};
+ghost use Rattle.seat_steps.specs.volap_cell.specs.declared.cell.Cell.{Cell};
 
+use seat_steps::shard_store::Phase;
+use seat_steps::volap_cell::Cell;
 use seat_steps::{Floor, Player};
-use shard_store::Phase;
-use volap_cell::Cell;
 
 /// Whether no insert is in the tree of the gate in a cell.
 fn is_drained_in(cell: &Cell) -> bool

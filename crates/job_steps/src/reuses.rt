@@ -1,17 +1,17 @@
 //! Cells of gates that are gone, which the administrator uses again between two commands.
 ghost use Rattle.std.specs.Prelude.{◌≡◌, [], ◌∷◌, None, Some, IfNone, IfSome};
-ghost use Rattle.core_steps.specs.Reuses.{reuse_places};
+ghost use Rattle.seat_steps.specs.core_steps.specs.Reuses.{reuse_places};
 ghost use Rattle.job_steps.specs.Reuses.{HasReused, IsBetween, IsReleasedAt, IsReuseDue, WasInUse, cell_of_reuse};
 ghost use Rattle.list_words.specs.Counts.{Among, Each};
 ghost use Rattle.seat_steps.specs.Booked.{IsAsBefore, IsUnchanged};
 ghost use Rattle.seat_steps.specs.Floors.{IsSeated, Stands};
 ghost use Rattle.seat_steps.specs.declared.floor.Player.{Player};
-ghost use Rattle.volap_cell.specs.Values.{actor_of};
-ghost use Rattle.volap_turns.specs.Rows.{AreAt};
+ghost use Rattle.seat_steps.specs.volap_cell.specs.Values.{actor_of};
+ghost use Rattle.seat_steps.specs.volap_turns.specs.Rows.{AreAt};
 
 use crate::looks::{is_released_at, last_gone_at};
 use crate::steps::{BLOCK, GATE, STOCK};
-use core_steps::{ReuseStep, stock_place};
+use seat_steps::core_steps::{ReuseStep, stock_place};
 use seat_steps::{Floor, Player, give_all, make, take, take_first};
 use std::alloc::Global;
 use std::sync::Wait;

@@ -1,21 +1,21 @@
 //! A step of a job over the cells that the administrator holds, and what is done where it finds no memory.
 ghost use Rattle.std.specs.Prelude.{◌≡◌, false, IsOk, OnErr, OnOk};
-ghost use Rattle.core_steps.specs.Jobs.{job_may_fail, job_places};
-ghost use Rattle.core_steps.specs.declared.jobs.JobStep.TheVariants.{Postpone};
+ghost use Rattle.seat_steps.specs.core_steps.specs.Jobs.{job_may_fail, job_places};
+ghost use Rattle.seat_steps.specs.core_steps.specs.declared.jobs.JobStep.TheVariants.{Postpone};
 ghost use Rattle.job_steps.specs.Dues.{IsEnd, IsJobDue, IsJobDueAnyhow, IsQuiet, over_by};
 ghost use Rattle.job_steps.specs.Jobs.{CameTo, GoesOnWithJob, HasJobOpen};
 ghost use Rattle.seat_steps.specs.Booked.{IsAsBefore, IsUnchanged};
 ghost use Rattle.seat_steps.specs.Floors.{IsSeated, Stands};
 ghost use Rattle.seat_steps.specs.declared.floor.Player.{Player};
-ghost use Rattle.volap_cell.specs.Values.{actor_of};
-ghost use Rattle.volap_turns.specs.Rows.{AreAt};
+ghost use Rattle.seat_steps.specs.volap_cell.specs.Values.{actor_of};
+ghost use Rattle.seat_steps.specs.volap_turns.specs.Rows.{AreAt};
 
-use core_steps::{JobStep, stock_place};
 use row_ledger::How;
+use seat_steps::core_steps::{JobStep, stock_place};
+use seat_steps::volap_cell::Command;
 use seat_steps::{Floor, Player, make, make_booked, take_first};
 use std::alloc::{AllocError, Global};
 use std::sync::Wait;
-use volap_cell::Command;
 
 /// The ranks that are told for tables, gates, blocks, the registry and the stock.
 pub(crate) const TABLE: u8 = 1;

@@ -2,10 +2,10 @@
 ghost use Rattle.std.specs.Prelude.{◌<◌, [], ◌∷◌};
 ghost use Rattle.job_steps.specs.Turns.{AreInOrder, IsBehind, MayTake, TakesSome};
 ghost use Rattle.seat_steps.specs.Floors.{IsSeated};
-ghost use Rattle.volap_cell.specs.Setting.{ledger_cell, registry_cell, stock_cell};
+ghost use Rattle.seat_steps.specs.volap_cell.specs.Setting.{ledger_cell, registry_cell, stock_cell};
 
 use crate::steps::{REGISTRY, STOCK};
-use core_steps::{ledger_place, registry_place, stock_place};
+use seat_steps::core_steps::{ledger_place, registry_place, stock_place};
 use seat_steps::{Floor, LEDGER, Player, take};
 use std::sync::Wait;
 

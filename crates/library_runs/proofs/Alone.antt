@@ -8,7 +8,7 @@ use Rattle.list_words.proofs.Elements.{Contains-filter, Contains-map, Contains-m
 use Rattle.row_ledger.specs.{Bounds.{known, listed, must, own, passed}, Past.{Ack, Insert, Query, acked, acked_rows, before, begun, event_at, has_ended, insert_at, is_beginning, is_over, query_at, query_in}, Right.{EachEvent, IsRight, Stands}, Settled.IsSettled, Site.site_of, declared.event.Event.Event, declared.event.Event.TheVariants.{Answered, Begun}, declared.settings.Use.Use}
 use Rattle.script_form.specs.declared.script.Command.{Command}
 use Rattle.script_run.specs.{Between.{IsInOrder, IsThrough}, Parts.place_in, Runs.{BeginsAt, EndsBefore}}
-use Rattle.volap_cell.proofs.Histories.Knowing.{acked-begun}
+use Rattle.olap_top.specs.volap_cell.proofs.Histories.Knowing.{acked-begun}
 use Rattle.library_runs.specs.Index.{AnswersAreOfAll}
 
 -- Beginnings and ends.

@@ -8,8 +8,8 @@ use Rattle.row_ledger.specs.{Right.{EachEvent, IsRight, Stands}, Site.site_of, d
 use Rattle.script_form.specs.declared.script.Command.{Command}
 use Rattle.script_run.proofs.{Between.through-law, Whole.serial_law}
 use Rattle.script_run.specs.{Between.{IsInOrder, IsThrough}, Places.places, Runs.BeginsAt}
-use Rattle.seeded_run.specs.{Kept.IsBetween, Phase.{IsCoreHeld, MayAllRun, MayRun, about, held}}
-use Rattle.volap_cell.specs.declared.state.State.{State}
+use Rattle.olap_top.specs.seeded_run.specs.{Kept.IsBetween, Phase.{IsCoreHeld, MayAllRun, MayRun, about, held}}
+use Rattle.olap_top.specs.volap_cell.specs.declared.state.State.{State}
 use Rattle.olap_top.proofs.{Handing.held-inv, InsertsEnd.inserts-over}
 use Rattle.library_runs.specs.{Index.{AnswersLast, IsHeld, IsRightIndex, alone, history_of}, declared.index.Index.Index}
 use Rattle.library_runs.proofs.Alone.{AreOfOne, answers-of-all, last-begun}

@@ -5,8 +5,8 @@ use Rattle.measure_agg.specs.Aggregate.{Aggregate, agg}
 use Rattle.row_ledger.specs.{Past.{Query, acked_rows, before, query_at}, declared.event.Event.Event, declared.event.Event.TheVariants.Answered, declared.settings.Use.Use}
 use Rattle.script_form.specs.declared.script.Command.{Command}
 use Rattle.script_run.specs.Runs.{BeginsAt, IsSerial}
-use Rattle.seeded_run.specs.{Kept.IsBetween, Phase.{IsCoreHeld, MayAllRun, about, held}}
-use Rattle.volap_cell.specs.Steps.{history_in}
+use Rattle.olap_top.specs.seeded_run.specs.{Kept.IsBetween, Phase.{IsCoreHeld, MayAllRun, about, held}}
+use Rattle.olap_top.specs.volap_cell.specs.Steps.{history_in}
 use Rattle.olap_top.specs.Outcomes.{HasRun}
 use Rattle.library_runs.specs.declared.index.Index.{Index}
 

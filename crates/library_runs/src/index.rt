@@ -5,18 +5,18 @@ ghost use Rattle.dim_hierarchy.specs.Dimension.{Dimension};
 ghost use Rattle.dim_hierarchy.specs.Row.{leaves};
 ghost use Rattle.row_ledger.specs.declared.settings.Use as settings;
 ghost use Rattle.script_form.specs.declared.script.Command.TheVariants as command;
-ghost use Rattle.seeded_run.specs.Phase.{IsCoreHeld, MayRun, held};
-ghost use Rattle.volap_cell.specs.Steps.{history_in};
+ghost use Rattle.olap_top.specs.seeded_run.specs.Phase.{IsCoreHeld, MayRun, held};
+ghost use Rattle.olap_top.specs.volap_cell.specs.Steps.{history_in};
 ghost use Rattle.library_runs.specs.Index.{AnswersLast, AnswersNothing, HasDone, IsHeld, IsNew, IsRightIndex, alone, history_of};
 
 use crate::names::first_unknown;
 use dim_hierarchy::{Hierarchy, Measures, NameFilter, RowNames};
 use measure_agg::Agg;
+use olap_top::seeded_run::{Schedule, open_core, run_phase};
+use olap_top::volap_cell::{Cell, State};
 use row_ledger::{Event, Use};
 use script_form::{Command, Commands, NewRow, Question};
-use seeded_run::{Schedule, open_core, run_phase};
 use std::alloc::{AllocError, Global};
-use volap_cell::{Cell, State};
 
 /// One server and one worker, on one thread.
 fn alone(cells: u32) -> Use

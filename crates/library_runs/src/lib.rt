@@ -9,3 +9,7 @@ mod text;
 pub use index::Index;
 pub use names::{RowFault, row, under};
 pub use text::{Answered, run_text};
+
+// What stands below is passed on.
+pub use olap_top;
+pub use olap_top::{seeded_run, volap_cell};

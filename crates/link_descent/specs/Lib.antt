@@ -6,3 +6,5 @@ pub mod Divide
 pub mod MoreSets
 pub mod Descend
 pub mod Room
+-- What stands below is passed on.
+pub use Rattle.shard_store

@@ -20,3 +20,6 @@ pub use gate_reads::read_gate;
 pub use item_sets::ItemSets;
 pub use tail::Tail;
 pub use visits::{MOST_NOTED, visit};
+
+// What stands below is passed on.
+pub use shard_store;

@@ -1,11 +1,11 @@
 -- The history of a core goes on with each turn, and each state that turns lead to meets the invariant.
 use Rattle.std.proofs.Common.{◌∙◌, ℕ, Bool, List, [], ◌∷◌, ◌++◌, refl, sym, ap, subst, append_assoc}
 use Rattle.row_ledger.specs.declared.event.Event.{Event}
-use Rattle.core_told.proofs.Told.{told-law}
-use Rattle.core_told.specs.Told.{OfBeginning, OfDeed, OfEnd, OfNothing, OfPage, OfPull, Told}
+use Rattle.seeded_run.specs.core_told.proofs.Told.{told-law}
+use Rattle.seeded_run.specs.core_told.specs.Told.{OfBeginning, OfDeed, OfEnd, OfNothing, OfPage, OfPull, Told}
 use Rattle.seeded_run.specs.{Can.able_in, Phase.IsKeptTurn, Rests.PhaseRun}
 use Rattle.seeded_turns.specs.Drawn.{AreTurns, Moment}
-use Rattle.volap_cell.specs.{Setting.Setting, Steps.{Inv, Step, history_in}, World.World, declared.kind.Kind.Kind}
+use Rattle.core_laws.specs.volap_cell.specs.{Setting.Setting, Steps.{Inv, Step, history_in}, World.World, declared.kind.Kind.Kind}
 use Rattle.olap_top.specs.RunSoFar.{HasGrown}
 
 pub grown-none : (h : List Event) → HasGrown h h

@@ -5,8 +5,8 @@ use Rattle.dim_hierarchy.specs.Dimension.{Dimension}
 use Rattle.row_ledger.specs.{LedgerValue.LedgerValue, declared.settings.Use.Use}
 use Rattle.seeded_run.proofs.Worlds.{only-world, one-setting}
 use Rattle.seeded_run.specs.Phase.{IsCoreHeld, about, held}
-use Rattle.volap_cell.specs.{Cells.{FreeCell, LedgerCell, cell_of}, Filling.cell_or, Setting.{actor_count, cell_count, ledger_cell}, State.Has, Steps.Inv, Values.actor_of, World.{change, put}, declared.actor.Actor.Actor, declared.cell.Cell.Cell, declared.state.State.State}
-use Rattle.volap_cell.specs.declared.cell.Cell.TheVariants as cell
+use Rattle.core_laws.specs.volap_cell.specs.{Cells.{FreeCell, LedgerCell, cell_of}, Filling.cell_or, Setting.{actor_count, cell_count, ledger_cell}, State.Has, Steps.Inv, Values.actor_of, World.{change, put}, declared.actor.Actor.Actor, declared.cell.Cell.Cell, declared.state.State.State}
+use Rattle.core_laws.specs.volap_cell.specs.declared.cell.Cell.TheVariants as cell
 use Rattle.olap_top.specs.OneRun.{IsWhole}
 
 -- the core that is held meets the invariant

@@ -5,8 +5,8 @@ use Rattle.core_laws.proofs.CellUses.{cell-use-law}
 use Rattle.row_ledger.specs.{Site.site_of, declared.event.Event.Event}
 use Rattle.script_form.specs.{Fits.AreSettings, declared.script.Script.Script}
 use Rattle.seeded_run.specs.{Kept.{AreIdle, IsNoneGone}, Order.is_order}
-use Rattle.volap_cell.proofs.Promised.{place-law, rows-law}
-use Rattle.volap_cell.specs.{Opening.IsOpening, Setting.Setting, Steps.{Inv, history_in}, World.World}
+use Rattle.core_laws.specs.volap_cell.proofs.Promised.{place-law, rows-law}
+use Rattle.core_laws.specs.volap_cell.specs.{Opening.IsOpening, Setting.Setting, Steps.{Inv, history_in}, World.World}
 use Rattle.olap_top.specs.{Left.{IsHandedOut, LeavesRun}, OneRun.{EndsAs, GoesTo, IsRunUpTo, IsWhole, setting_of}, Outcomes.{RunsInOrder, schedule_of}, RowsKept.AreRowsKept, RunSoFar.{HasLeft, history_of, world_of}, Settles.IsSettling, declared.outcome.Outcome.Outcome, declared.run.Run.Run, declared.wanted.Wanted.Wanted}
 use Rattle.olap_top.proofs.{Behind.of-all-behind, Handing.held-inv, PhaseSteps.held-right, Settled.{settled-all, settles-tell}}
 

@@ -13,7 +13,7 @@ use Rattle.script_run.proofs.{Between.{order-start-law, through-law}, PhaseEnds.
 use Rattle.script_run.specs.{Between.IsThrough, Phases.{all_of, closes, phases, phases_to}, Places.{are_over, begins_of, count_of, is_over_at, places, places_behind}, Runs.{IsRunSoFar, IsSerial}, Streams.NoneCloses}
 use Rattle.seeded_run.specs.{Order.is_order, Phase.{ClosesLast, MayAllRun, MayRun}}
 use Rattle.seeded_turns.specs.{Drawn.Moment, declared.schedule.Schedule.Schedule}
-use Rattle.volap_cell.specs.{Steps.Inv, World.World}
+use Rattle.core_laws.specs.volap_cell.specs.{Steps.Inv, World.World}
 use Rattle.olap_top.specs.{OneRun.{EndsAs, GoesTo, RunPhases, RunsPhase, RunsWhole, phase_of}, Outcomes.{HasRun, RanInto, RanToPhase, TookPart, asked_text_to}, RunSoFar.{tells_phases, HasGone, HasLeft, HasStopped, IsBehind, IsHeld, history_of, moment_of, tells, world_of}, declared.outcome.Status.Status, declared.run.Run.Run, declared.wanted.Wanted.Wanted}
 use Rattle.olap_top.specs.declared.outcome.Status.TheVariants as status_is
 use Rattle.olap_top.proofs.{Asked.asked-to, Handing.held-inv, InsertsEnd.{inserts-end, inserts-over}, Kept.{lines-grown, lines_of}, PhaseTurns.first-over}

@@ -11,7 +11,7 @@ use Rattle.script_run.proofs.{Between.through-law, PlaceFacts.places_behind-appe
 use Rattle.script_run.specs.Places.{are_over, is_over_at, places, places_behind}
 use Rattle.seeded_run.specs.{Can.able_in, Kept.{IsBetween, IsStopped}, Order.is_order, Phase.{IsCoreHeld, IsKeptTurn, NobodyCanStep, RunsTo, about, held, phase_from}, Rests.PhaseRun}
 use Rattle.seeded_turns.specs.{Drawn.Reaches, declared.schedule.Schedule.Schedule}
-use Rattle.volap_cell.specs.{Setting.{Setting, site_in}, Steps.{Inv, history_in}, World.World, declared.state.State.State}
+use Rattle.core_laws.specs.volap_cell.specs.{Setting.{Setting, site_in}, Steps.{Inv, history_in}, World.World, declared.state.State.State}
 use Rattle.olap_top.specs.{OneRun.{RunsPhase, phase_at, setting_of}, RunSoFar.{HasGone, HasGrown, HasStopped, HasToldSo, IsBehind, IsHeld, history_of, moment_of, tells, untold_text, world_of}, declared.run.Run.Run}
 use Rattle.olap_top.proofs.{Grown.turns-come, Handing.held-inv}
 

@@ -3,7 +3,7 @@ use Rattle.std.proofs.Common.{◌≡◌, ◌∙◌, ◌+◌, ◌<◌, ℕ, Bool,
 use Rattle.std.specs.Prelude.{Contains, IfSome, Some, if◌then◌else◌, nat_lt}
 use Rattle.dim_hierarchy.specs.Dimension.{Dimension}
 use Rattle.row_ledger.proofs.{Older.{acked-older, passed-older}, SettledAnswer.{EachEvent-later, settled-is_all}, Settling.{must-passed, passed-settled}}
-use Rattle.volap_cell.proofs.Histories.Knowing.{acked-begun}
+use Rattle.core_laws.specs.volap_cell.proofs.Histories.Knowing.{acked-begun}
 use Rattle.row_ledger.specs.{Bounds.passed, Classes.class_of, Past.{Ack, Insert, acked, before, call_at, insert_at}, Right.{EachEvent, IsRight, Stands}, Settled.{pulls_since, settle_pulls}, Site.{Site, site_of}, declared.event.Event.Event, declared.event.Event.TheVariants.Ended, declared.settings.Call.TheVariants.Settle, declared.settings.How.TheVariants.Fine, declared.settings.Use.Use}
 use Rattle.script_run.specs.Runs.{ArePulls, HasPulls}
 use Rattle.olap_top.specs.Settles.{SettledAreAll, SettlesTell}

@@ -5,8 +5,8 @@ use Rattle.dim_hierarchy.specs.Dimension.{Dimension}
 use Rattle.row_ledger.specs.{Site.site_of, declared.settings.Use.Use}
 use Rattle.script_form.specs.declared.script.Script.{Script}
 use Rattle.seeded_run.specs.Phase.{about, held}
-use Rattle.volap_cell.specs.{Setting.ledger_cell, declared.state.State.State}
-use Rattle.volap_cell.specs.declared.cell.Cell.TheVariants as cell
+use Rattle.core_laws.specs.volap_cell.specs.{Setting.ledger_cell, declared.state.State.State}
+use Rattle.core_laws.specs.volap_cell.specs.declared.cell.Cell.TheVariants as cell
 use Rattle.olap_top.specs.{OneRun.{IsRestOf, IsWhole, setting_of, with_ledger}, Outcomes.{goes_in_order, IsAskedScript, RunsInOrder}, RowsKept.AreRowsKept, Settles.IsSettling, declared.outcome.Outcome.Outcome, declared.outcome.Status.TheVariants.NoMemory, declared.wanted.Wanted.Wanted}
 
 -- The state was handed out, with the ledger moved out of its cell.

@@ -3,11 +3,11 @@ use Rattle.std.specs.{List.slice_index_or, Prelude.{ℕ, ◌≡◌, ⊤, Bool, t
 use Rattle.row_ledger.specs.LedgerValue.{LedgerValue}
 use Rattle.script_form.specs.{declared.script.Command.Command, declared.script.Script.Script}
 use Rattle.script_run.specs.Phases.{phases}
-use Rattle.script_roles.specs.Roles.{roles_of}
+use Rattle.seeded_run.specs.script_roles.specs.Roles.{roles_of}
 use Rattle.seeded_run.specs.{Can.able_in, Phase.{IsKeptTurn, about, held}, Rests.PhaseRun}
 use Rattle.seeded_turns.specs.{Drawn.{Moment, Reaches}, declared.schedule.Schedule.Schedule}
-use Rattle.volap_cell.specs.{Cells.{FreeCell, LedgerCell}, Filling.setting_for, Opening.IsOpening, Setting.{Setting, actor_count, cell_count, ledger_cell}, Steps.history_in, World.{World, change, put}, declared.state.State.State}
-use Rattle.volap_cell.specs.declared.cell.Cell.TheVariants as cell
+use Rattle.core_laws.specs.volap_cell.specs.{Cells.{FreeCell, LedgerCell}, Filling.setting_for, Opening.IsOpening, Setting.{Setting, actor_count, cell_count, ledger_cell}, Steps.history_in, World.{World, change, put}, declared.state.State.State}
+use Rattle.core_laws.specs.volap_cell.specs.declared.cell.Cell.TheVariants as cell
 use Rattle.olap_top.specs.{Outcomes.{schedule_of, goes_in_order}, declared.outcome.Status.Status, declared.wanted.Wanted.Wanted}
 use Rattle.olap_top.specs.declared.outcome.Status.TheVariants as status_is
 

@@ -1,7 +1,7 @@
 -- That each row has its place in a state.
 use Rattle.std.specs.Prelude.{ℕ, ◌≡◌, ◌≤◌, true, IsTrue, Some, Contains}
 use Rattle.row_ledger.specs.{Past.{Ack, Insert, acked, insert_at, is_kept}, Shards.is_live}
-use Rattle.volap_cell.specs.{Promises.{IsInOne, HasItsPlace, Standing, times_in}, Setting.Setting, View.view, World.World}
+use Rattle.core_laws.specs.volap_cell.specs.{Promises.{IsInOne, HasItsPlace, Standing, times_in}, Setting.Setting, View.view, World.World}
 
 -- Each row whose insert began and didn't fail is in one place: in one shard that stands, once; or its insert stands on a desk, and its
 -- part hasn't passed a gate; or no part for it was routed yet.

@@ -6,7 +6,7 @@ use Rattle.script_form.specs.{declared.script.Command.Command, declared.script.S
 use Rattle.script_run.specs.Runs.{IsRunSoFar, IsSerial}
 use Rattle.seeded_run.specs.{Kept.{AreIdle, IsBetween, IsNoneGone, IsStopped}, Order.is_order, Phase.{IsCoreHeld, about, held}}
 use Rattle.seeded_turns.specs.{Drawn.Moment, declared.schedule.Schedule.Schedule}
-use Rattle.volap_cell.specs.{Steps.history_in, World.World}
+use Rattle.core_laws.specs.volap_cell.specs.{Steps.history_in, World.World}
 use Rattle.olap_top.specs.{OneRun.{EndsAs, GoesTo, RunsPhase, RunsWhole, phase_at, setting_of}, declared.outcome.Status.Status, declared.outcome.Status.TheVariants.NoMemory, declared.run.Run.Run, declared.wanted.Wanted.Wanted, declared.wanted.Wanted.TheVariants.Load}
 
 abbrev pub world_of : Script → Run → World

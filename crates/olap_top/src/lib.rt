@@ -9,3 +9,7 @@ mod wanted;
 pub use outcome::{Outcome, Status};
 pub use top::olap;
 pub use wanted::Wanted;
+
+// What stands below is passed on.
+pub use core_laws::volap_cell;
+pub use seeded_run;

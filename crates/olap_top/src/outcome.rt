@@ -1,6 +1,6 @@
 //! What a call of the top leaves.
+use core_laws::volap_cell::State;
 use row_ledger::Ledger;
-use volap_cell::State;
 
 /// How a call of the top ended. The numbers, from 0 in this order, are the program's exit statuses.
 #[derive(Clone, Copy, Debug, PartialEq, Eq)]

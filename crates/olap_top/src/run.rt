@@ -7,18 +7,18 @@ ghost use Rattle.olap_top.specs.Outcomes.{schedule_of};
 ghost use Rattle.answer_text.specs.Summary.{summary};
 ghost use Rattle.dim_hierarchy.specs.Dimension.{Dimension};
 ghost use Rattle.row_ledger.specs.declared.settings.Use as settings;
-ghost use Rattle.script_roles.specs.Roles.{CanOpen};
+ghost use Rattle.seeded_run.specs.script_roles.specs.Roles.{CanOpen};
 ghost use Rattle.seeded_run.specs.Phase.{ClosesLast, IsCoreHeld, MayAllRun, held};
-ghost use Rattle.volap_cell.specs.Steps.{history_in};
+ghost use Rattle.core_laws.specs.volap_cell.specs.Steps.{history_in};
 
 use crate::wanted::Wanted;
 use answer_text::{Teller, summary};
+use core_laws::volap_cell::{Cell, State};
 use row_ledger::{Event, Use};
 use script_form::{Command, Script};
 use seeded_run::{open_core, run_phase};
 use seeded_turns::Schedule;
 use std::alloc::{AllocError, Global};
-use volap_cell::{Cell, State};
 
 /// The events so far, the oldest first.
 fn events(state: &State) -> &[Event]
@@ -83,7 +83,7 @@ pub struct Run {
 
 impl Run {
     ghost use Rattle.olap_top.specs.RunSoFar.{HasGone, HasStopped, IsBehind, IsHeld, history_of, tells, world_of, tells_phases};
-    ghost use Rattle.volap_cell.specs.Opening.{IsOpening};
+    ghost use Rattle.core_laws.specs.volap_cell.specs.Opening.{IsOpening};
     ghost use Rattle.olap_top.specs.Outcomes.{schedule_of};
     ghost use Rattle.olap_top.specs.OneRun.{setting_of};
 

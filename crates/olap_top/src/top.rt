@@ -23,13 +23,13 @@ use crate::outcome::{Outcome, Status};
 use crate::run::Run;
 use crate::wanted::Wanted;
 use answer_text::BadLine;
+use core_laws::volap_cell::{Cell, State, lift_one, put_one};
 use row_ledger::Ledger;
 use script_form::{Cause, Script, ScriptFault, read_script};
 use script_run::phase_len;
 use std::alloc::Global;
 use std::sync::Wait;
 use std::thread::Threads;
-use volap_cell::{Cell, State, lift_one, put_one};
 use volap_gen::{generate, generated_is_a_script};
 use volap_io::{Meet, ReadEnd, Sink, Source, read_all, write_all};
 

@@ -4,8 +4,8 @@ use Rattle.std.proofs.{Common.{◌≡◌, ◌≢◌, ◌∙◌, ℕ, ◌+◌, �
 use mathlib.Core.Logic.{dite}
 use mathlib.Core.Option.{none, some, some-injective, some-ne-none}
 use native.Mathlib.Decide.{ℕ_discrete}
-use Rattle.core_due.specs.Ready.{IsLendable, IsPrepared}
-use Rattle.core_steps.specs.Places.{number_at, numbers}
+use Rattle.seat_steps.specs.core_due.specs.Ready.{IsLendable, IsPrepared}
+use Rattle.seat_steps.specs.core_steps.specs.Places.{number_at, numbers}
 use Rattle.list_words.specs.Counts.{Each}
 use Rattle.list_words.proofs.Each.{each-both, each-here, each-left, each-map, each-right}
 use Rattle.part_steps.specs.Heads.{AreUpToBlocks, CanTake, InAll, TakesAll, at_blocks}
@@ -13,9 +13,9 @@ use Rattle.seat_steps.specs.{Floors.{IsAround, IsSeated}, Takes.{IsSameActor, Ta
 use Rattle.seat_steps.proofs.Around.{around}
 use Rattle.turn_table.specs.{Numbered.{Extends, numbers_of, value_of}, Seat.{cell_count, free_rank}}
 use Rattle.turn_table.proofs.{Numbered.{find_append, find_append_first, find_append_second, find_else, find_here}, Seats.numbers_append}
-use Rattle.volap_cell.specs.{Cells.{CellValue, ledger_in}, Setting.{Setting, ledger_cell}, State.AreDifferent, Values.{ActorValue, actor_of}, World.World, declared.actor.Actor.Actor, declared.cell.Cell.Cell}
-use Rattle.volap_turns.specs.Rows.{AreAt, IsThere}
-use Rattle.volap_turns.proofs.Placed.{length-numbers}
+use Rattle.seat_steps.specs.volap_cell.specs.{Cells.{CellValue, ledger_in}, Setting.{Setting, ledger_cell}, State.AreDifferent, Values.{ActorValue, actor_of}, World.World, declared.actor.Actor.Actor, declared.cell.Cell.Cell}
+use Rattle.seat_steps.specs.volap_turns.specs.Rows.{AreAt, IsThere}
+use Rattle.seat_steps.specs.volap_turns.proofs.Placed.{length-numbers}
 
 -- Numbers that are apart.
 

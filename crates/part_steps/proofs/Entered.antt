@@ -2,19 +2,19 @@
 -- the step holds.
 use Rattle.std.proofs.{Common.{◌≡◌, ◌∙◌, ℕ, zero, suc, List, [], ◌∷◌, ◌++◌, drop, slice_get, Option, Some, None, sym, ap, subst, inl, inr}}
 use Rattle.cell_stock.specs.{Stock.PurseValue, declared.purse.Spare.Spare}
-use Rattle.core_steps.specs.Places.{numbers, swaps}
+use Rattle.seat_steps.specs.core_steps.specs.Places.{numbers, swaps}
 use Rattle.dc_node.specs.{Block.entries_in, declared.block.Block.Block, declared.entry.Entry.Entry}
 use Rattle.dim_hierarchy.specs.{Dimension.Dimension, declared.row.Row.Row}
-use Rattle.link_descent.specs.{Descend.{Cuts, Enters, IsShared, StepsDown}, declared.entered.Entered.Entered, declared.entered.Fresh.Fresh}
+use Rattle.seat_steps.specs.link_descent.specs.{Descend.{Cuts, Enters, IsShared, StepsDown}, declared.entered.Entered.Entered, declared.entered.Fresh.Fresh}
 use Rattle.list_words.proofs.{Each.{each-left, each-right}, Elements.Some-same}
 use Rattle.list_words.specs.Counts.{Each}
 use Rattle.part_steps.specs.Goings.{IsBesidePart}
 use Rattle.seat_steps.specs.Floors.{kept_by}
 use Rattle.part_steps.proofs.Uncarried.{beside}
-use Rattle.shard_store.specs.declared.gate.Gate.{Gate}
+use Rattle.seat_steps.specs.shard_store.specs.declared.gate.Gate.{Gate}
 use Rattle.turn_table.specs.Seat.{free_rank}
-use Rattle.volap_cell.specs.{Kinds.Does, State.changes_of, TreeKinds.{AreFilled, blocks_of, on_way}, Values.ActorValue, World.Change, declared.cell.Cell.Cell, declared.errand.Way.TheVariants.Carried}
-use Rattle.volap_cell.specs.declared.kind.Kind.TheVariants as kind
+use Rattle.seat_steps.specs.volap_cell.specs.{Kinds.Does, State.changes_of, TreeKinds.{AreFilled, blocks_of, on_way}, Values.ActorValue, World.Change, declared.cell.Cell.Cell, declared.errand.Way.TheVariants.Carried}
+use Rattle.seat_steps.specs.volap_cell.specs.declared.kind.Kind.TheVariants as kind
 
 module _ (P : ℕ → Type 0) where
   -- The cells of a step.

@@ -1,15 +1,15 @@
 -- What is held besides a full head, as it is taken: the next block, the one behind that, and the cells of spares.
 use Rattle.std.proofs.Common.{◌≡◌, ◌∙◌, ℕ, List, [], ◌∷◌, Bool, true, false, Option, Some, None, refl, sym, ap, subst}
 use Rattle.std.specs.Prelude.{if◌then◌else◌}
-use Rattle.core_due.specs.Rows.{second_behind}
-use Rattle.core_steps.specs.Places.{number_at, numbers}
+use Rattle.seat_steps.specs.core_due.specs.Rows.{second_behind}
+use Rattle.seat_steps.specs.core_steps.specs.Places.{number_at, numbers}
 use Rattle.dc_node.specs.Block.{is_full}
 use Rattle.part_steps.specs.{Heads.{CanTake, InAll, TakesAll, full_at, head_at, places_behind, places_of}, declared.heads.{Group.Group, Head.Head}}
 use Rattle.seat_steps.specs.{Floors.{IsAround, IsSeated}, Looks.Sees, declared.floor.{Floor.Floor, Player.Player}}
 use Rattle.part_steps.proofs.BlocksTaken.{around-before, can-first, can-rest, first-left, left-more, takes-none, takes-on}
 use Rattle.seat_steps.proofs.Around.{around}
-use Rattle.volap_cell.specs.{Cells.{CellValue, block_in}, Setting.Setting, World.World}
-use Rattle.volap_turns.specs.Rows.{IsThere}
+use Rattle.seat_steps.specs.volap_cell.specs.{Cells.{CellValue, block_in}, Setting.Setting, World.World}
+use Rattle.seat_steps.specs.volap_turns.specs.Rows.{IsThere}
 
 module _ (f : Floor) (group : Group) (last before : Option ℕ) where
   -- what is left to be taken when the head is, when the first block is, and when the second is

@@ -2,11 +2,11 @@
 use Rattle.std.proofs.Common.{◌≡◌, ◌≢◌, ◌∙◌, ℕ, eqb, cond, Bool, List, [], ◌∷◌, map, Option, Some, None, sym, ap, subst}
 use Rattle.std.specs.Prelude.{⊤}
 use mathlib.Core.Option.{some}
-use Rattle.core_steps.specs.{Begins.{begin_kind, begin_places, begin_tells}, Books.{book_kind, book_places, book_tells}, Notes.{note_kind, note_places, note_sees, note_tells}, Parts.{part_kind, part_places}, Places.{numbers, swaps}, Rows.{row_kind, row_places}, Trees.{tree_kind, tree_places}}
-use Rattle.core_steps.specs.declared.{begins.BeginStep.BeginStep, books.BookStep.BookStep, notes.NoteStep.NoteStep, parts.PartStep.PartStep, parts.PartStep.TheVariants.TakePart, rows.RowStep.RowStep, trees.TreeStep.TreeStep}
-use Rattle.core_steps.specs.declared.begins.BeginStep.TheVariants as begin
-use Rattle.core_steps.specs.declared.books.BookStep.TheVariants as book
-use Rattle.core_steps.specs.declared.rows.RowStep.TheVariants as row
+use Rattle.seat_steps.specs.core_steps.specs.{Begins.{begin_kind, begin_places, begin_tells}, Books.{book_kind, book_places, book_tells}, Notes.{note_kind, note_places, note_sees, note_tells}, Parts.{part_kind, part_places}, Places.{numbers, swaps}, Rows.{row_kind, row_places}, Trees.{tree_kind, tree_places}}
+use Rattle.seat_steps.specs.core_steps.specs.declared.{begins.BeginStep.BeginStep, books.BookStep.BookStep, notes.NoteStep.NoteStep, parts.PartStep.PartStep, parts.PartStep.TheVariants.TakePart, rows.RowStep.RowStep, trees.TreeStep.TreeStep}
+use Rattle.seat_steps.specs.core_steps.specs.declared.begins.BeginStep.TheVariants as begin
+use Rattle.seat_steps.specs.core_steps.specs.declared.books.BookStep.TheVariants as book
+use Rattle.seat_steps.specs.core_steps.specs.declared.rows.RowStep.TheVariants as row
 use Rattle.dim_hierarchy.specs.Dimension.{Dimension}
 use Rattle.list_words.proofs.{Each.each-map, Truth.on_bool}
 use Rattle.list_words.specs.Counts.{Each}
@@ -15,10 +15,10 @@ use Rattle.part_steps.specs.Goings.{IsBesidePart}
 use Rattle.seat_steps.specs.{Floors.{AreTold, IsAround, kept_by, kept_on}, Made.IsKeptBy, declared.floor.{Floor.Floor, Player.Player}}
 use Rattle.turn_table.specs.{Numbered.{after_first, value_of}, Seat.free_rank}
 use Rattle.turn_table.proofs.Numbered.{find_else, find_here}
-use Rattle.volap_cell.specs.{Errands.{taken_by, taken_of, way_of}, ImageKinds.{DoesNote, DoesNoteWith, OfCalled, OfCalledAsking, OfCount, OfEnded, OfLeft, OfQuery, OfRefused, OfShown, OfUnknown, OfUnrouted, doing}, Kinds.Does, State.{AreDifferent, changes_of}, Steps.Makes, Values.{ActorValue, ErrandValue, actor_of}, World.{Change, World}, Setting.Setting, declared.cell.Cell.Cell, declared.command.Balance.Balance, declared.command.Command.Command}
-use Rattle.volap_cell.specs.declared.command.Work.TheVariants as work_is
-use Rattle.volap_cell.specs.declared.kind.Kind.TheVariants as kind
-use Rattle.volap_turns.specs.Rows.{cells_for}
+use Rattle.seat_steps.specs.volap_cell.specs.{Errands.{taken_by, taken_of, way_of}, ImageKinds.{DoesNote, DoesNoteWith, OfCalled, OfCalledAsking, OfCount, OfEnded, OfLeft, OfQuery, OfRefused, OfShown, OfUnknown, OfUnrouted, doing}, Kinds.Does, State.{AreDifferent, changes_of}, Steps.Makes, Values.{ActorValue, ErrandValue, actor_of}, World.{Change, World}, Setting.Setting, declared.cell.Cell.Cell, declared.command.Balance.Balance, declared.command.Command.Command}
+use Rattle.seat_steps.specs.volap_cell.specs.declared.command.Work.TheVariants as work_is
+use Rattle.seat_steps.specs.volap_cell.specs.declared.kind.Kind.TheVariants as kind
+use Rattle.seat_steps.specs.volap_turns.specs.Rows.{cells_for}
 
 -- Parts.
 

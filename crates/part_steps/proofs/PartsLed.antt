@@ -1,7 +1,7 @@
 -- A part before its gate: the turns that it waits for, where the held table leads it, and how its row comes in there.
 use Rattle.std.proofs.Common.{◌≡◌, ◌∙◌, ℕ, ◌<◌, true, false, [], ◌∷◌, Some, sym, ap, subst, arith}
-use Rattle.core_due.specs.Due.{may_enter}
-use Rattle.core_due.proofs.StepsPrepared.{carried-own}
+use Rattle.seat_steps.specs.core_due.specs.Due.{may_enter}
+use Rattle.seat_steps.specs.core_due.proofs.StepsPrepared.{carried-own}
 use Rattle.dc_node.specs.Block.{is_leaf}
 use Rattle.part_steps.specs.{Parts.{HasWay, IsLed, IsRouteOf, MayWaitFor}, Rows.{IsToDescend, IsToEnter}, declared.parts.Route.Route}
 use Rattle.seat_steps.specs.{Floors.{IsSeated, at_block, kept_by, kept_on}, Looks.{Sees, lead_of}, declared.{floor.{Floor.Floor, Player.Player}, looks.Lead.Lead}}
@@ -9,9 +9,9 @@ use Rattle.seat_steps.specs.declared.looks.Lead.TheVariants as lead
 use Rattle.part_steps.proofs.{PartsSure.{gate-there, leads-in, led-map, map-in, seen-in, table-there, with-around}, Takings.{first-turn, second-turn}}
 use Rattle.seat_steps.proofs.Around.{around, kept-there, within}
 use Rattle.turn_table.specs.Seat.{cell_count, free_rank}
-use Rattle.volap_cell.specs.{Cells.{block_in, where_in}, Errands.{block_at, place_of, way_in_task, way_of}, Setting.map_cell, Values.{ActorValue, ErrandValue, TaskValue, actor_of}, declared.errand.Way.Way}
-use Rattle.volap_cell.specs.declared.errand.Way.TheVariants as way
-use Rattle.volap_turns.specs.Rows.{IsThere}
+use Rattle.seat_steps.specs.volap_cell.specs.{Cells.{block_in, where_in}, Errands.{block_at, place_of, way_in_task, way_of}, Setting.map_cell, Values.{ActorValue, ErrandValue, TaskValue, actor_of}, declared.errand.Way.Way}
+use Rattle.seat_steps.specs.volap_cell.specs.declared.errand.Way.TheVariants as way
+use Rattle.seat_steps.specs.volap_turns.specs.Rows.{IsThere}
 
 module _ (f : Floor) (p : Player) (seated : IsSeated f p) where
   abbrev pub a : ActorValue

@@ -1,10 +1,10 @@
 -- A step of a part over the cells that the actor holds: what is asked for it is so, and the actor has gone on by it.
 use Rattle.std.proofs.Common.{◌≡◌, ◌≢◌, ◌∙◌, ℕ, ◌<◌, ◌≤◌, List, [], ◌∷◌, ◌++◌, append_assoc, length, Bool, true, false, is_ok, Option, Some, Result, refl, sym, ap, subst, inl, inr, arith}
 use Rattle.std.specs.Prelude.{⊤, IsOk}
-use Rattle.core_due.specs.Ready.{IsLendable, IsPrepared}
-use Rattle.core_steps.specs.{Parts.{part_asks, part_kind, part_places}, Places.{numbers, values, values_at}, Trees.{tree_asks, tree_kind, tree_places}, declared.parts.PartStep.PartStep, declared.trees.TreeStep.TreeStep}
-use Rattle.core_steps.specs.declared.parts.PartStep.TheVariants as part
-use Rattle.core_steps.specs.declared.trees.TreeStep.TheVariants as tree
+use Rattle.seat_steps.specs.core_due.specs.Ready.{IsLendable, IsPrepared}
+use Rattle.seat_steps.specs.core_steps.specs.{Parts.{part_asks, part_kind, part_places}, Places.{numbers, values, values_at}, Trees.{tree_asks, tree_kind, tree_places}, declared.parts.PartStep.PartStep, declared.trees.TreeStep.TreeStep}
+use Rattle.seat_steps.specs.core_steps.specs.declared.parts.PartStep.TheVariants as part
+use Rattle.seat_steps.specs.core_steps.specs.declared.trees.TreeStep.TheVariants as tree
 use Rattle.dim_hierarchy.specs.Dimension.{Dimension}
 use Rattle.list_words.specs.Counts.{Each}
 use Rattle.row_ledger.specs.declared.event.Event.{Event}
@@ -13,9 +13,9 @@ use Rattle.seat_steps.specs.{Floors.{IsSeated, Stands}, Made.{HasMade, IsKeptBy}
 use Rattle.part_steps.proofs.{Keeping.{IsNoBalance, at-part-no-balance, part-beside, part-kept, tree-beside}, PartsSure.with-around, Takings.{all-at, first-turn, second-turn}, Unvisited.{part-unvisited, tree-unvisited}}
 use Rattle.seat_steps.proofs.Around.{around, asked-held, within}
 use Rattle.turn_table.specs.Numbered.{Extends, numbers_of}
-use Rattle.volap_cell.specs.{Cells.CellValue, Setting.Setting, State.AreDifferent, Values.{ActorValue, actor_of}, World.World}
-use Rattle.volap_cell.specs.Setting as setting
-use Rattle.volap_turns.specs.Rows.{AreAt, cells_for}
+use Rattle.seat_steps.specs.volap_cell.specs.{Cells.CellValue, Setting.Setting, State.AreDifferent, Values.{ActorValue, actor_of}, World.World}
+use Rattle.seat_steps.specs.volap_cell.specs.Setting as setting
+use Rattle.seat_steps.specs.volap_turns.specs.Rows.{AreAt, cells_for}
 
 -- where a step found no memory, it is one of those that may
 pub may-fail : {T E : Type 0} (may : Bool) (r : Result T E) → (may ≡ false → IsOk r) → is_ok r ≡ false → may ≡ true

@@ -1,12 +1,12 @@
 -- The steps of a part at a seat, each where it is due: what it asks is so in each state that has the actor and the cells that it holds.
 use Rattle.std.proofs.Common.{◌≡◌, ◌≢◌, ◌∙◌, ℕ, ◌+◌, ◌<◌, inl, inr, Bool, true, false, not, [], is_some, Option, Some, None, refl, sym, ap, subst}
-use Rattle.core_due.specs.{Due.{is_empty, led_to, may_enter}, Look.setting_by, Parts.{task_due, visit_due}, Ready.{IsStepPrepared, IsTreePrepared}}
-use Rattle.core_due.specs.declared.parts.PartDue.TheVariants.{Tree}
-use Rattle.core_due.proofs.{AtParts.{led-gate, part-places}, Owned.{gate-owned, lend-gate, lend-map, off-map}, PartsReady.is-prepared, StepsPrepared.{ending-prepared, enter_queue-prepared, expand-prepared, forward-prepared, give_back-prepared, leave_tree-prepared, look_up-prepared, put_in_leaf-prepared, read_gate-prepared, refill-prepared}}
-use Rattle.core_shard.specs.Due.{HasEnd, IsEndOfWay, IsOut}
-use Rattle.core_steps.specs.declared.{parts.PartStep.PartStep, trees.TreeStep.TreeStep}
-use Rattle.core_steps.specs.declared.parts.PartStep.TheVariants as part
-use Rattle.core_steps.specs.declared.trees.TreeStep.TheVariants as tree
+use Rattle.seat_steps.specs.core_due.specs.{Due.{is_empty, led_to, may_enter}, Look.setting_by, Parts.{task_due, visit_due}, Ready.{IsStepPrepared, IsTreePrepared}}
+use Rattle.seat_steps.specs.core_due.specs.declared.parts.PartDue.TheVariants.{Tree}
+use Rattle.seat_steps.specs.core_due.proofs.{AtParts.{led-gate, part-places}, Owned.{gate-owned, lend-gate, lend-map, off-map}, PartsReady.is-prepared, StepsPrepared.{ending-prepared, enter_queue-prepared, expand-prepared, forward-prepared, give_back-prepared, leave_tree-prepared, look_up-prepared, put_in_leaf-prepared, read_gate-prepared, refill-prepared}}
+use Rattle.seat_steps.specs.core_shard.specs.Due.{HasEnd, IsEndOfWay, IsOut}
+use Rattle.seat_steps.specs.core_steps.specs.declared.{parts.PartStep.PartStep, trees.TreeStep.TreeStep}
+use Rattle.seat_steps.specs.core_steps.specs.declared.parts.PartStep.TheVariants as part
+use Rattle.seat_steps.specs.core_steps.specs.declared.trees.TreeStep.TheVariants as tree
 use Rattle.dc_node.specs.Block.{is_leaf}
 use Rattle.describing_set.specs.declared.plane.Plane.{Plane}
 use Rattle.mapping_table.specs.declared.place.Where.{Where}
@@ -16,9 +16,9 @@ use Rattle.seat_steps.specs.{Floors.{IsAround, kept_by, kept_on, at_block}, Look
 use Rattle.seat_steps.specs.declared.looks.Lead.TheVariants as lead
 use Rattle.part_steps.specs.declared.parts.AtGate.TheVariants as at_gate
 use Rattle.seat_steps.proofs.Around.{still-held, still-sees, still-there}
-use Rattle.volap_cell.specs.{Cells.{CellValue, block_in, where_in}, Errands.{Outside, RowPlace, block_at, place_of, way_in_task, way_of}, Setting.{Setting, cell_count, desk_cell, map_cell}, ShardKinds.pin_of, Values.{ActorValue, ErrandValue, OfRow, Read, TaskValue, Unread, actor_of}, World.World, declared.errand.Way.Way}
-use Rattle.volap_cell.specs.declared.errand.Way.TheVariants as way
-use Rattle.volap_turns.specs.Rows.{IsThere}
+use Rattle.seat_steps.specs.volap_cell.specs.{Cells.{CellValue, block_in, where_in}, Errands.{Outside, RowPlace, block_at, place_of, way_in_task, way_of}, Setting.{Setting, cell_count, desk_cell, map_cell}, ShardKinds.pin_of, Values.{ActorValue, ErrandValue, OfRow, Read, TaskValue, Unread, actor_of}, World.World, declared.errand.Way.Way}
+use Rattle.seat_steps.specs.volap_cell.specs.declared.errand.Way.TheVariants as way
+use Rattle.seat_steps.specs.volap_turns.specs.Rows.{IsThere}
 
 -- Where a table leads.
 

@@ -2,9 +2,9 @@
 -- prepared then.
 use Rattle.std.proofs.{Common.{◌≡◌, ◌∙◌, ℕ, ◌≤◌, List, [], ◌∷◌, ◌++◌, length, slice_get, Option, Some, None, Bool, refl, sym, ap, subst, arith}, lemmas.List.length-map}
 use Rattle.std.specs.{Option.IfSome, Prelude.{if◌then◌else◌}}
-use Rattle.core_due.specs.{Ready.{IsDescending, IsRowPrepared}, Rows.{held_for, row_in, row_of}, Spares.last_spare}
-use Rattle.core_due.proofs.Descents.{IsDescent, descent}
-use Rattle.core_steps.specs.{Places.{number_at, numbers}, Rows.row_places}
+use Rattle.seat_steps.specs.core_due.specs.{Ready.{IsDescending, IsRowPrepared}, Rows.{held_for, row_in, row_of}, Spares.last_spare}
+use Rattle.seat_steps.specs.core_due.proofs.Descents.{IsDescent, descent}
+use Rattle.seat_steps.specs.core_steps.specs.{Places.{number_at, numbers}, Rows.row_places}
 use Rattle.dc_node.specs.{Block.{entries_in, is_full}, declared.block.Block.Block, declared.entry.Entry.Entry}
 use Rattle.dim_hierarchy.specs.{Dimension.Dimension, Rows.IsRowOf, declared.row.Row.Row}
 use Rattle.list_words.specs.Counts.{Each}
@@ -16,10 +16,10 @@ use Rattle.seat_steps.specs.declared.floor.{Floor.Floor, Player.Player}
 use Rattle.part_steps.proofs.{BlocksTaken.{all-there, around-before, can-take, free-ranks, numbers-held}, Keeping.{HaveFreeRank, down-kept, down-ranks, told_free}}
 use Rattle.seat_steps.proofs.Around.{around}
 use Rattle.turn_table.specs.{Numbered.{after_first, numbers_of}, Seat.free_rank}
-use Rattle.volap_cell.specs.{Cells.{CellValue, block_in}, Errands.{block_at, place_of, way_in_task, way_of}, Setting.Setting, Values.{ActorValue, ErrandValue, OfRow, TaskValue, actor_of}, World.World, declared.errand.{RowErrand.RowErrand, Way.Way}}
-use Rattle.volap_cell.specs.declared.errand.Way.TheVariants as way
-use Rattle.volap_turns.specs.Rows.{IsThere}
-use Rattle.volap_turns.proofs.Placed.{length-numbers}
+use Rattle.seat_steps.specs.volap_cell.specs.{Cells.{CellValue, block_in}, Errands.{block_at, place_of, way_in_task, way_of}, Setting.Setting, Values.{ActorValue, ErrandValue, OfRow, TaskValue, actor_of}, World.World, declared.errand.{RowErrand.RowErrand, Way.Way}}
+use Rattle.seat_steps.specs.volap_cell.specs.declared.errand.Way.TheVariants as way
+use Rattle.seat_steps.specs.volap_turns.specs.Rows.{IsThere}
+use Rattle.seat_steps.specs.volap_turns.proofs.Placed.{length-numbers}
 
 -- for the actor of a row that is carried the rank of blocks is told for that block
 carried-kept : (a : ActorValue) (e : ErrandValue) (r : RowErrand) (gate block : ℕ) → a.errand ≡ Some e → e.task ≡ OfRow r → r.way ≡ way.Carried gate block → kept_by a ≡ (block, Some free_rank) ∷ []

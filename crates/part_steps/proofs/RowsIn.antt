@@ -1,8 +1,8 @@
 -- A row that comes in at a gate: to which group, that what its step holds can be taken, and that the step is prepared then.
 use Rattle.std.proofs.Common.{◌≡◌, ◌∙◌, ℕ, ◌≤◌, List, [], ◌∷◌, ◌++◌, length, Option, Some, refl, sym, ap, subst, arith}
-use Rattle.core_due.specs.{Ready.{IsRowPrepared}, Spares.{last_spare, spare_before}}
-use Rattle.core_due.proofs.Entrances.{IsEntrance, entrance}
-use Rattle.core_steps.specs.{Places.numbers, Rows.row_places}
+use Rattle.seat_steps.specs.core_due.specs.{Ready.{IsRowPrepared}, Spares.{last_spare, spare_before}}
+use Rattle.seat_steps.specs.core_due.proofs.Entrances.{IsEntrance, entrance}
+use Rattle.seat_steps.specs.core_steps.specs.{Places.numbers, Rows.row_places}
 use Rattle.list_words.specs.Counts.{Each}
 use Rattle.part_steps.specs.{Heads.{AreUpToBlocks, CanTake, InAll, IsToMake, TakesAll, group_in, head_at, in_to, places_of}, Rows.IsToEnter}
 use Rattle.seat_steps.specs.{Floors.{IsAround, IsSeated}, Looks.Sees}
@@ -11,9 +11,9 @@ use Rattle.seat_steps.specs.declared.floor.{Floor.Floor, Player.Player}
 use Rattle.part_steps.proofs.{BlocksTaken.{all-there, around-before, can-take, free-ranks, numbers-held, up-one}, Keeping.{HaveFreeRank, enter-kept, enter-ranks, told_free}}
 use Rattle.seat_steps.proofs.Around.{around}
 use Rattle.turn_table.specs.Numbered.{after_first, numbers_of, value_of}
-use Rattle.volap_cell.specs.{Setting.Setting, Values.actor_of, World.World}
-use Rattle.volap_turns.specs.Rows.{IsThere}
-use Rattle.volap_turns.proofs.Placed.{length-numbers}
+use Rattle.seat_steps.specs.volap_cell.specs.{Setting.Setting, Values.actor_of, World.World}
+use Rattle.seat_steps.specs.volap_turns.specs.Rows.{IsThere}
+use Rattle.seat_steps.specs.volap_turns.proofs.Placed.{length-numbers}
 
 module _ (f : Floor) (p : Player) (map gate : ℕ) (seated : IsSeated f p) (ranks : p.seat.ranks ≡ (map, Some 1) ∷ (gate, Some 2) ∷ []) (enters : IsToEnter f p map gate) where
   pub numbers-in : numbers_of p.seat.view.held ≡ map ∷ gate ∷ []

@@ -1,17 +1,17 @@
 -- A step of a row over the cells that the actor holds: what is asked for it is so, and the actor has gone on by it.
 use Rattle.std.proofs.Common.{◌≡◌, ◌∙◌, ℕ, ◌<◌, ◌≤◌, List, [], ◌∷◌, length, Option, Some, None, sym, ap, subst, arith}
 use Rattle.std.specs.Prelude.{⊤}
-use Rattle.core_steps.specs.{Places.{numbers, values, values_at}, Rows.{row_asks, row_kind, row_places}, declared.rows.RowStep.RowStep}
-use Rattle.core_steps.specs.declared.rows.RowStep.TheVariants as row
+use Rattle.seat_steps.specs.core_steps.specs.{Places.{numbers, values, values_at}, Rows.{row_asks, row_kind, row_places}, declared.rows.RowStep.RowStep}
+use Rattle.seat_steps.specs.core_steps.specs.declared.rows.RowStep.TheVariants as row
 use Rattle.dim_hierarchy.specs.Dimension.{Dimension}
 use Rattle.part_steps.specs.{Goings.WentOn, Heads.IsToMake}
 use Rattle.seat_steps.specs.{Floors.Stands, Made.HasMade, declared.floor.{Floor.Floor, Player.Player}}
 use Rattle.part_steps.proofs.{BlocksTaken.are-at, Keeping.row-beside, Unvisited.row-not}
 use Rattle.seat_steps.proofs.Around.{around, asked-held}
 use Rattle.turn_table.specs.Numbered.{Extends}
-use Rattle.volap_cell.specs.Values.{actor_of}
-use Rattle.volap_turns.specs.Rows.{AreAt, cells_for}
-use Rattle.volap_turns.proofs.Placed.{length-numbers}
+use Rattle.seat_steps.specs.volap_cell.specs.Values.{actor_of}
+use Rattle.seat_steps.specs.volap_turns.specs.Rows.{AreAt, cells_for}
+use Rattle.seat_steps.specs.volap_turns.proofs.Placed.{length-numbers}
 
 -- a step has two cells at least, and seven at most
 

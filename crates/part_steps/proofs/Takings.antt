@@ -3,16 +3,16 @@ use Rattle.std.proofs.Common.{◌≡◌, ◌≢◌, ◌∙◌, ℕ, ◌<◌, Lis
 use mathlib.Core.Logic.{dite}
 use mathlib.Core.Option.{some}
 use native.Mathlib.Decide.{ℕ_discrete}
-use Rattle.core_steps.specs.Places.{numbers}
+use Rattle.seat_steps.specs.core_steps.specs.Places.{numbers}
 use Rattle.list_words.specs.Counts.{Each}
 use Rattle.part_steps.specs.Parts.{MayWaitFor}
 use Rattle.seat_steps.specs.{Floors.IsSeated, Takes.Takes, declared.floor.{Floor.Floor, Player.Player}}
 use Rattle.seat_steps.proofs.{Ranks.{order-more, order-none}, Left.no-numbers}
 use Rattle.turn_table.specs.{Numbered.{numbers_of, value_of}, Seat.cell_count}
 use Rattle.turn_table.proofs.{Numbered.{find_else, find_here, none_same}, Seats.numbers_append}
-use Rattle.volap_cell.specs.{State.AreDifferent, declared.cell.Cell.Cell}
-use Rattle.volap_turns.specs.Rows.{AreAt, IsThere}
-use Rattle.volap_turns.proofs.Placed.{length-numbers}
+use Rattle.seat_steps.specs.volap_cell.specs.{State.AreDifferent, declared.cell.Cell.Cell}
+use Rattle.seat_steps.specs.volap_turns.specs.Rows.{AreAt, IsThere}
+use Rattle.seat_steps.specs.volap_turns.proofs.Placed.{length-numbers}
 
 -- what has a number in a list is found there
 there-in : (ps all : List (ℕ × Cell)) → ((k : ℕ) (x : Cell) → value_of ps k ≡ some x → IsThere all k) → Each (IsThere all) (numbers_of ps)

@@ -1,19 +1,19 @@
 -- What the steps of parts and trees leave of their actor: it is beside its part as before, and carries no row.
 use Rattle.std.proofs.Common.{◌≡◌, ◌∙◌, ℕ, true, List, [], ◌∷◌, Option, Some, None, refl, sym, ap, inl, inr}
 use Rattle.cell_stock.specs.declared.purse.Spare.{Spare}
-use Rattle.core_steps.specs.{Parts.part_kind, Trees.tree_kind}
-use Rattle.core_steps.specs.declared.{parts.PartStep.PartStep, trees.TreeStep.TreeStep}
-use Rattle.core_steps.specs.declared.parts.PartStep.TheVariants as part
-use Rattle.core_steps.specs.declared.trees.TreeStep.TheVariants as tree
+use Rattle.seat_steps.specs.core_steps.specs.{Parts.part_kind, Trees.tree_kind}
+use Rattle.seat_steps.specs.core_steps.specs.declared.{parts.PartStep.PartStep, trees.TreeStep.TreeStep}
+use Rattle.seat_steps.specs.core_steps.specs.declared.parts.PartStep.TheVariants as part
+use Rattle.seat_steps.specs.core_steps.specs.declared.trees.TreeStep.TheVariants as tree
 use Rattle.dim_hierarchy.specs.Dimension.{Dimension}
 use Rattle.query_router.specs.declared.part.{Part.Part, Want.Want}
 use Rattle.query_router.specs.declared.part.Want.TheVariants as want
 use Rattle.part_steps.specs.Goings.{IsBesidePart}
 use Rattle.seat_steps.specs.Floors.{at_block, kept_by, kept_on}
-use Rattle.volap_cell.specs.{Errands.{IsCarried, RowWay, block_at, way_of}, ImageKinds.doing, Kinds.Does, ShardKinds.errand_for, TreeKinds.on_way, Values.{ActorValue, ErrandValue}, World.Change, declared.command.Balance.Balance}
-use Rattle.volap_cell.specs.declared.command.Work.TheVariants as work_is
-use Rattle.volap_cell.specs.declared.errand.Way.TheVariants.{Before, Placed, Put}
-use Rattle.volap_cell.specs.declared.kind.Kind.TheVariants as kind
+use Rattle.seat_steps.specs.volap_cell.specs.{Errands.{IsCarried, RowWay, block_at, way_of}, ImageKinds.doing, Kinds.Does, ShardKinds.errand_for, TreeKinds.on_way, Values.{ActorValue, ErrandValue}, World.Change, declared.command.Balance.Balance}
+use Rattle.seat_steps.specs.volap_cell.specs.declared.command.Work.TheVariants as work_is
+use Rattle.seat_steps.specs.volap_cell.specs.declared.errand.Way.TheVariants.{Before, Placed, Put}
+use Rattle.seat_steps.specs.volap_cell.specs.declared.kind.Kind.TheVariants as kind
 
 -- the actor is beside its part as before, and carries no row
 abbrev pub IsUncarried : ActorValue → ActorValue → Type 0

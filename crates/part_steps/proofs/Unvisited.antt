@@ -1,15 +1,15 @@
 -- From a query's part that has read no gate a step leads to no part, to one that has read no gate, or to one whose gate it read.
 use Rattle.std.proofs.Common.{◌≡◌, ◌∙◌, List, [], ◌∷◌, Option, Some, None, sym, ap, inl, inr}
-use Rattle.core_steps.specs.{Parts.part_kind, Rows.row_kind, Steps.Went, Trees.{tree_kind, tree_places}}
-use Rattle.core_steps.specs.declared.{parts.PartStep.PartStep, rows.RowStep.RowStep, trees.TreeStep.TreeStep}
-use Rattle.core_steps.specs.declared.parts.PartStep.TheVariants as part
-use Rattle.core_steps.specs.declared.rows.RowStep.TheVariants as row
-use Rattle.core_steps.specs.declared.trees.TreeStep.TheVariants as tree
+use Rattle.seat_steps.specs.core_steps.specs.{Parts.part_kind, Rows.row_kind, Steps.Went, Trees.{tree_kind, tree_places}}
+use Rattle.seat_steps.specs.core_steps.specs.declared.{parts.PartStep.PartStep, rows.RowStep.RowStep, trees.TreeStep.TreeStep}
+use Rattle.seat_steps.specs.core_steps.specs.declared.parts.PartStep.TheVariants as part
+use Rattle.seat_steps.specs.core_steps.specs.declared.rows.RowStep.TheVariants as row
+use Rattle.seat_steps.specs.core_steps.specs.declared.trees.TreeStep.TheVariants as tree
 use Rattle.dim_hierarchy.specs.Dimension.{Dimension}
 use Rattle.list_words.proofs.Elements.{Some-same}
 use Rattle.part_steps.specs.{Parts.IsUnread, Reads.{Anything, IsBeforeBlocks}}
-use Rattle.volap_cell.specs.{Kinds.Does, TreeKinds.HasRow, Values.{ActorValue, ErrandValue, OfRow, Read, ReadingValue, Unread}, World.Change, declared.cell.Cell.Cell, declared.errand.RowErrand.RowErrand}
-use Rattle.volap_cell.specs.declared.kind.Kind.TheVariants as kind
+use Rattle.seat_steps.specs.volap_cell.specs.{Kinds.Does, TreeKinds.HasRow, Values.{ActorValue, ErrandValue, OfRow, Read, ReadingValue, Unread}, World.Change, declared.cell.Cell.Cell, declared.errand.RowErrand.RowErrand}
+use Rattle.seat_steps.specs.volap_cell.specs.declared.kind.Kind.TheVariants as kind
 
 -- an actor with the same part has read no gate either
 pub unread-still : {a b : ActorValue} → b.errand ≡ a.errand → IsUnread a → IsUnread b

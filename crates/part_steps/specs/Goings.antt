@@ -3,7 +3,7 @@ use Rattle.std.specs.Prelude.{◌≡◌}
 use Rattle.part_steps.specs.{Parts.IsUnread, Reads.IsBeforeBlocks}
 use Rattle.seat_steps.specs.{Floors.Stands, declared.floor.{Floor.Floor, Player.Player}}
 use Rattle.turn_table.specs.Numbered.{Extends}
-use Rattle.volap_cell.specs.Values.{ActorValue, actor_of}
+use Rattle.seat_steps.specs.volap_cell.specs.Values.{ActorValue, actor_of}
 
 -- the actor is as before but for its part, its purse and its rooms
 abbrev pub IsBesidePart : ActorValue → ActorValue → Type 0

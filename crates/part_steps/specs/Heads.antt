@@ -2,17 +2,17 @@
 -- are, and cells for new blocks.
 use Rattle.std.specs.Prelude.{ℕ, ◌≡◌, ◌<◌, ◌≤◌, ◌++◌, ⊤, false, List, [], ◌∷◌, length, map, slice_get, Option, Some}
 use mathlib.Core.Option.{none, some}
-use Rattle.core_due.specs.{Ready.IsRowPrepared, Rows.{first_behind, held_for, row_of, second_behind}}
-use Rattle.core_steps.specs.{Places.numbers, Rows.{row_kind, row_places}, declared.rows.RowStep.RowStep}
-use Rattle.core_steps.specs.declared.rows.RowStep.TheVariants as row_step
+use Rattle.seat_steps.specs.core_due.specs.{Ready.IsRowPrepared, Rows.{first_behind, held_for, row_of, second_behind}}
+use Rattle.seat_steps.specs.core_steps.specs.{Places.numbers, Rows.{row_kind, row_places}, declared.rows.RowStep.RowStep}
+use Rattle.seat_steps.specs.core_steps.specs.declared.rows.RowStep.TheVariants as row_step
 use Rattle.dc_node.specs.{Block.{IsBodyOf, entries_in, is_leaf}, declared.entry.Entry.Entry}
 use Rattle.dim_hierarchy.specs.{Dimension.Dimension, Rows.IsRowOf, declared.row.Row.Row}
-use Rattle.link_descent.specs.Pick.{pick_place}
+use Rattle.seat_steps.specs.link_descent.specs.Pick.{pick_place}
 use Rattle.list_words.specs.Counts.{Each}
 use Rattle.part_steps.specs.declared.heads.{Group.Group, Head.Head}
 use Rattle.seat_steps.specs.{Floors.{IsAround, IsSeated}, Made.IsKeptBy, Takes.IsSameActor, declared.floor.{Floor.Floor, Player.Player}}
 use Rattle.turn_table.specs.{Numbered.{numbers_of, value_of}, Seat.{cell_count, free_rank}}
-use Rattle.volap_cell.specs.{Cells.{CellValue, block_in, way_in}, Setting.Setting, State.AreDifferent, Values.ActorValue, World.World, declared.cell.Cell.Cell}
+use Rattle.seat_steps.specs.volap_cell.specs.{Cells.{CellValue, block_in, way_in}, Setting.Setting, State.AreDifferent, Values.ActorValue, World.World, declared.cell.Cell.Cell}
 
 -- so it is in every state that the seat may be in
 abbrev pub InAll : Floor → Player → (World → Type 0) → Type 0

@@ -1,17 +1,17 @@
 -- How far the part of an actor has come, and what its steps ask in whatever state the seat may be.
 use Rattle.std.specs.Prelude.{ℕ, ◌≡◌, ◌<◌, Bool, true, List, [], length, Option, Some, None}
 use mathlib.Core.Option.{none, some}
-use Rattle.core_due.specs.{Look.setting_by, Ready.{IsStepPrepared, IsTreePrepared}, Wants.last_noted}
-use Rattle.core_shard.specs.Due.{HasEnd}
-use Rattle.core_steps.specs.declared.{parts.PartStep.PartStep, trees.TreeStep.TreeStep}
+use Rattle.seat_steps.specs.core_due.specs.{Look.setting_by, Ready.{IsStepPrepared, IsTreePrepared}, Wants.last_noted}
+use Rattle.seat_steps.specs.core_shard.specs.Due.{HasEnd}
+use Rattle.seat_steps.specs.core_steps.specs.declared.{parts.PartStep.PartStep, trees.TreeStep.TreeStep}
 use Rattle.dim_hierarchy.specs.declared.filter.Pick.{Pick}
 use Rattle.part_steps.specs.declared.parts.{AtGate.AtGate, Route.Route}
 use Rattle.seat_steps.specs.{Looks.{Sees, lead_of}, declared.{floor.{Floor.Floor, Player.Player}, looks.Lead.Lead}}
 use Rattle.part_steps.specs.declared.parts.AtGate.TheVariants as at_gate
 use Rattle.turn_table.specs.{Numbered.value_of, Seat.{IsInOrder, cell_count}}
-use Rattle.volap_cell.specs.{Cells.{cell_of, where_in}, Setting.{Setting, desk_cell, map_cell}, Steps.Inv, TreeKinds.HasRow, Values.{ActorValue, ErrandValue, Read, ReadingValue, Unread, actor_of}, World.World, declared.cell.Cell.Cell, declared.errand.RowErrand.RowErrand, declared.errand.Way.Way}
-use Rattle.volap_cell.specs.declared.errand.Way.TheVariants as way
-use Rattle.volap_turns.specs.Rows.{IsThere}
+use Rattle.seat_steps.specs.volap_cell.specs.{Cells.{cell_of, where_in}, Setting.{Setting, desk_cell, map_cell}, Steps.Inv, TreeKinds.HasRow, Values.{ActorValue, ErrandValue, Read, ReadingValue, Unread, actor_of}, World.World, declared.cell.Cell.Cell, declared.errand.RowErrand.RowErrand, declared.errand.Way.Way}
+use Rattle.seat_steps.specs.volap_cell.specs.declared.errand.Way.TheVariants as way
+use Rattle.seat_steps.specs.volap_turns.specs.Rows.{IsThere}
 
 -- How far a part has come.
 

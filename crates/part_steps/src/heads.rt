@@ -1,19 +1,19 @@
 //! The head to which a row's step comes, and what is held besides it.
 ghost use Rattle.std.specs.Prelude.{◌≡◌, ◌<◌, ◌≤◌, length};
-ghost use Rattle.core_due.specs.Rows.{next_behind, second_behind};
-ghost use Rattle.core_steps.specs.Places.{number_at, numbers};
+ghost use Rattle.seat_steps.specs.core_due.specs.Rows.{next_behind, second_behind};
+ghost use Rattle.seat_steps.specs.core_steps.specs.Places.{number_at, numbers};
 ghost use Rattle.dc_node.specs.Block.{is_full};
 ghost use Rattle.list_words.specs.Counts.{Each};
 ghost use Rattle.seat_steps.specs.Floors.{IsSeated};
 ghost use Rattle.part_steps.specs.Heads.{AreUpToBlocks, CanTake, InAll, TakesAll, full_at, head_at, places_behind, places_of};
 ghost use Rattle.seat_steps.specs.Looks.{Sees};
-ghost use Rattle.volap_cell.specs.Cells.{block_in, cell_of};
-ghost use Rattle.volap_turns.specs.Rows.{IsThere};
+ghost use Rattle.seat_steps.specs.volap_cell.specs.Cells.{block_in, cell_of};
+ghost use Rattle.seat_steps.specs.volap_turns.specs.Rows.{IsThere};
 
-use core_due::next_of;
+use seat_steps::core_due::next_of;
+use seat_steps::volap_cell::Cell;
 use seat_steps::{Floor, Player, take};
 use std::sync::Wait;
-use volap_cell::Cell;
 
 /// The rank of blocks, which are taken in any order.
 const BLOCKS: u8 = 3;

@@ -6,3 +6,7 @@ mod parts;
 mod rows;
 
 pub use parts::{Did, go_on_at_part};
+
+// What stands below is passed on.
+pub use seat_steps;
+pub use seat_steps::{core_due, core_steps, link_descent, volap_cell, volap_turns};

@@ -1,29 +1,29 @@
 //! The step that is due for the part that an actor is at.
 ghost use Rattle.std.specs.Prelude.{ℕ, ◌≡◌, ◌++◌, [], ◌∷◌, false, true, IsSome, Some};
-ghost use Rattle.core_due.specs.Look.{setting_by};
-ghost use Rattle.core_steps.specs.Parts.{part_may_fail, part_places};
-ghost use Rattle.core_steps.specs.Places.{numbers};
-ghost use Rattle.core_steps.specs.Trees.{tree_may_fail, tree_places};
-ghost use Rattle.core_steps.specs.declared.parts.PartStep.TheVariants.{FinishPinned};
+ghost use Rattle.seat_steps.specs.core_due.specs.Look.{setting_by};
+ghost use Rattle.seat_steps.specs.core_steps.specs.Parts.{part_may_fail, part_places};
+ghost use Rattle.seat_steps.specs.core_steps.specs.Places.{numbers};
+ghost use Rattle.seat_steps.specs.core_steps.specs.Trees.{tree_may_fail, tree_places};
+ghost use Rattle.seat_steps.specs.core_steps.specs.declared.parts.PartStep.TheVariants.{FinishPinned};
 ghost use Rattle.seat_steps.specs.Floors.{IsSeated, Stands};
 ghost use Rattle.part_steps.specs.Goings.{WentOn};
 ghost use Rattle.part_steps.specs.Parts.{MayWaitFor, HasWay, IsFor, IsLed, IsPartSure, IsVisiting, IsRouteOf, IsTreeSure, CanEndPart};
 ghost use Rattle.seat_steps.specs.declared.looks.Lead.TheVariants as lead;
 ghost use Rattle.part_steps.specs.declared.parts.AtGate.TheVariants as at_gate;
 ghost use Rattle.turn_table.specs.Numbered.{numbers_of};
-ghost use Rattle.volap_cell.specs.ShardKinds.{pin_of};
-ghost use Rattle.volap_cell.specs.Setting.{desk_cell};
-ghost use Rattle.volap_cell.specs.Values.{ErrandValue, actor_of};
-ghost use Rattle.volap_cell.specs.declared.errand.Way.TheVariants as way;
-ghost use Rattle.volap_turns.specs.Rows.{AreAt};
+ghost use Rattle.seat_steps.specs.volap_cell.specs.ShardKinds.{pin_of};
+ghost use Rattle.seat_steps.specs.volap_cell.specs.Setting.{desk_cell};
+ghost use Rattle.seat_steps.specs.volap_cell.specs.Values.{ErrandValue, actor_of};
+ghost use Rattle.seat_steps.specs.volap_cell.specs.declared.errand.Way.TheVariants as way;
+ghost use Rattle.seat_steps.specs.volap_turns.specs.Rows.{AreAt};
 
 use crate::rows::{descend, enter};
-use core_due::{desk_at, is_spent, last_noted, map_at};
-use core_steps::{PartStep, TreeStep, stock_place};
+use seat_steps::core_due::{desk_at, is_spent, last_noted, map_at};
+use seat_steps::core_steps::{PartStep, TreeStep, stock_place};
+use seat_steps::volap_cell::{Actor, Errand, Task, Way};
 use seat_steps::{Floor, Lead, Player, give_all, is_leaf_at, lead_at, make, may_enter_at, take};
 use std::alloc::Global;
 use std::sync::Wait;
-use volap_cell::{Actor, Errand, Task, Way};
 
 /// What was done for a part. No clause tells of it.
 #[derive(Clone, Copy)]

@@ -1,6 +1,6 @@
 //! The steps of an actor's row to a head: in at a gate, and down from a block.
 ghost use Rattle.std.specs.Prelude.{◌≡◌, ◌<◌, [], ◌∷◌, length, Some};
-ghost use Rattle.core_due.specs.Spares.{last_spare, spare_before};
+ghost use Rattle.seat_steps.specs.core_due.specs.Spares.{last_spare, spare_before};
 ghost use Rattle.dc_node.specs.Block.{IsBodyOf, entries_in};
 ghost use Rattle.dim_hierarchy.specs.Rows.{IsRowOf};
 ghost use Rattle.seat_steps.specs.Floors.{IsSeated, Stands};
@@ -9,23 +9,23 @@ ghost use Rattle.part_steps.specs.Heads.{CanPick, IsPicked, IsToMake, PicksFor, 
 ghost use Rattle.seat_steps.specs.Looks.{Sees};
 ghost use Rattle.part_steps.specs.Rows.{IsToDescend, IsToEnter};
 ghost use Rattle.seat_steps.specs.Takes.{IsSameActor};
-ghost use Rattle.volap_cell.specs.Cells.{block_in, cell_of};
-ghost use Rattle.volap_cell.specs.Values.{actor_of};
-ghost use Rattle.volap_turns.specs.Rows.{IsThere};
+ghost use Rattle.seat_steps.specs.volap_cell.specs.Cells.{block_in, cell_of};
+ghost use Rattle.seat_steps.specs.volap_cell.specs.Values.{actor_of};
+ghost use Rattle.seat_steps.specs.volap_turns.specs.Rows.{IsThere};
 
 use crate::heads::{Group, take_head};
-use core_due::{last_spare, last_two};
-use core_steps::RowStep;
 use dc_node::Block;
 use dim_hierarchy::{Hierarchy, Row};
-use link_descent::pick;
+use seat_steps::core_due::{last_spare, last_two};
+use seat_steps::core_steps::RowStep;
+use seat_steps::link_descent::pick;
+use seat_steps::volap_cell::{Actor, Cell, Task};
 use seat_steps::{Floor, Player, make};
 use std::alloc::Global;
 use std::sync::Wait;
-use volap_cell::{Actor, Cell, Task};
 
 /// The place of the entry of a directory that comes first for a row, and the group to which it leads.
-#[tactic(auto, unfolding(link_descent::specs::Pick::pick_place))]
+#[tactic(auto, unfolding(seat_steps::link_descent::specs::Pick::pick_place))]
 fn pick_for(h: &Hierarchy, row: &Row, block: &Block) -> (u8, Group)
     requires body { IsBodyOf h.now block.now.body }
     requires some { 0 < length (entries_in block.now.body) }

@@ -4,7 +4,7 @@ use Rattle.std.specs.Prelude.{All, Result, Ok, Err, OnOk, Some, slice_get}
 use Rattle.dim_hierarchy.specs.Dimension.{Dimension}
 use Rattle.row_ledger.specs.declared.settings.Use.{Use}
 use Rattle.script_form.specs.{Fits.AreSettings, declared.script.Command.Command}
-use Rattle.seeded_run.specs.Phase.{MayAllRun}
+use Rattle.library_runs.specs.seeded_run.specs.Phase.{MayAllRun}
 
 -- Lists of which each item is so.
 

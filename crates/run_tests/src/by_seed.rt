@@ -4,8 +4,8 @@
 use crate::against_flat::{head, push_insert};
 use crate::chance::Dice;
 use crate::top::run_top;
+use library_runs::olap_top::Status;
 use measure_agg::Agg;
-use olap_top::Status;
 use row_ledger::{AuditLine, Event, Page, ShardLine};
 use std::alloc::{AllocError, Global};
 use std::fmt::Write;

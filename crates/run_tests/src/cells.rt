@@ -1,14 +1,14 @@
 //! What is tested of `volap_cell`.
 ghost use Rattle.std.specs.Prelude.{◌≡◌, ◌<◌, [], ◌∷◌, length, IfOk};
-ghost use Rattle.volap_cell.specs.State.{CanLift};
-ghost use Rattle.volap_cell.specs.declared.role.Role.TheVariants.{Session, Admin};
+ghost use Rattle.library_runs.specs.volap_cell.specs.State.{CanLift};
+ghost use Rattle.library_runs.specs.volap_cell.specs.declared.role.Role.TheVariants.{Session, Admin};
 
 use dim_hierarchy::Hierarchy;
+use library_runs::volap_cell::{Boxes, Cell, Role, RoleList, State, lift_one, open, put_one};
 use query_router::Desk;
 use row_ledger::Use;
 use std::alloc::{AllocError, Global};
 use std::test::Fail;
-use volap_cell::{Boxes, Cell, Role, RoleList, State, lift_one, open, put_one};
 
 /// The desk of a server.
 fn desk(alloc: Global, server: u8) -> Result<Cell, AllocError> {

@@ -4,9 +4,9 @@ use crate::shard_stories::{
     ASK_BOTH, BOTH, COUNT, ONE_WORKER, QUEUE, REUSE, SHOW, TOWNS, TWO_WORKERS,
 };
 use crate::stories::{ASK, BEFORE, BEHIND, Story, tell};
+use library_runs::volap_cell::Kind;
 use row_ledger::Call;
 use std::test::Fail;
-use volap_cell::Kind;
 
 /// What the administrator does until it begins to collect.
 const BEGIN: &[Kind] = &[Kind::Note, Kind::Freeze, Kind::Drained];

@@ -1,18 +1,18 @@
 //! Commands of a script run, phase by phase, and what is answered.
 ghost use Rattle.std.specs.Prelude.{◌≡◌, ◌≤◌, length, take, drop, IfOk, OnOk};
 ghost use Rattle.script_form.specs.Fits.{AreSettings};
-ghost use Rattle.seeded_run.specs.Kept.{IsBetween};
-ghost use Rattle.seeded_run.specs.Phase.{ClosesLast, IsCoreHeld, MayAllRun, about, held};
-ghost use Rattle.seeded_run.specs.Order.{is_order};
+ghost use Rattle.library_runs.specs.seeded_run.specs.Kept.{IsBetween};
+ghost use Rattle.library_runs.specs.seeded_run.specs.Phase.{ClosesLast, IsCoreHeld, MayAllRun, about, held};
+ghost use Rattle.library_runs.specs.seeded_run.specs.Order.{is_order};
 
 use describing_set::{DescSet, Part};
+use library_runs::seeded_run::{Schedule, open_core, run_phase};
+use library_runs::volap_cell::{Actor, Cell, State};
 use row_ledger::{Event, How, Page, ShardLine};
 use script_form::{Command, Script};
 use script_run::phase_len;
-use seeded_run::{Schedule, open_core, run_phase};
 use std::alloc::{AllocError, Global};
 use std::fmt::Write;
-use volap_cell::{Actor, Cell, State};
 
 /// Runs the phase of commands that stands behind so many of them.
 fn run_next(

@@ -3,7 +3,7 @@ ghost use Rattle.std.specs.Prelude.{◌≡◌, All, IfOk, OnOk, true};
 ghost use Rattle.dim_hierarchy.specs.Names.{IsNamePick};
 ghost use Rattle.script_form.specs.Fits.{AreSettings};
 ghost use Rattle.script_form.specs.declared.script.Command.TheVariants as script_is;
-ghost use Rattle.seeded_run.specs.Phase.{MayAllRun, MayRun};
+ghost use Rattle.library_runs.specs.seeded_run.specs.Phase.{MayAllRun, MayRun};
 
 use dim_hierarchy::{Hierarchy, Name, NameFilter, NamePick, Names, RowNames};
 use row_ledger::{Call, Use};

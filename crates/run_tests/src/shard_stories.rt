@@ -1,9 +1,9 @@
 //! Phases in which shards split and move, step by step.
 use crate::scripts::Line;
 use crate::stories::{ASK, BEFORE, BEHIND, LOOK, PULL, Story, tell};
+use library_runs::volap_cell::Kind;
 use row_ledger::Call;
 use std::test::Fail;
-use volap_cell::Kind;
 
 /// Two servers and one worker. The sessions are the actors 0 and 1, the administrator is 3, and the hand 4.
 pub(crate) const ONE_WORKER: &str =

@@ -1,8 +1,8 @@
 //! Pulls between which the registry doesn't change have one listing among them.
 use crate::runs::{events, run_script};
 use crate::scripts::{Line, script};
+use library_runs::seeded_run::Schedule;
 use row_ledger::{Call, Event};
-use seeded_run::Schedule;
 use std::alloc::{AllocError, Global};
 use std::test::Fail;
 

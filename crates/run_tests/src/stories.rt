@@ -1,18 +1,18 @@
 //! Phases whose steps are made by hand, each in an order that is told.
 ghost use Rattle.std.specs.Prelude.{◌≡◌, ◌++◌, IfOk, true};
 ghost use Rattle.script_form.specs.Fits.{AreSettings};
-ghost use Rattle.seeded_run.specs.Phase.{ClosesLast, MayAllRun};
+ghost use Rattle.library_runs.specs.seeded_run.specs.Phase.{ClosesLast, MayAllRun};
 
 use crate::runs::{all_rest, answers, events, run_all};
 use crate::scripts::{Line, script};
+use library_runs::seeded_run::{Move, Schedule, run_by_hand};
+use library_runs::volap_cell::{Kind, State};
 use row_ledger::Call;
 use script_form::{Command, Script};
 use script_run::phase_len;
-use seeded_run::{Move, Schedule, run_by_hand};
 use std::alloc::{AllocError, Global};
 use std::process::Abort;
 use std::test::Fail;
-use volap_cell::{Kind, State};
 
 /// Who makes steps of which kinds, one after the other. Who makes none has to wait at that time.
 pub(crate) type Moves = &'static [(u32, &'static [Kind])];

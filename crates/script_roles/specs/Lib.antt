@@ -1,1 +1,3 @@
 pub mod Roles
+-- What stands below is passed on.
+pub use Rattle.volap_cell

@@ -4,3 +4,6 @@
 mod listing;
 
 pub use listing::script_roles;
+
+// What stands below is passed on.
+pub use volap_cell;

@@ -2,14 +2,14 @@
 use Rattle.std.proofs.Common.{◌≡◌, ◌∙◌, ℕ, ◌<◌, List, [], ◌∷◌, Option, Some, None, option_map, refl, sym, ap, subst, arith}
 use mathlib.Core.Option.{none, some, some-injective}
 use Rattle.core_due.specs.Ready.{IsFree}
-use Rattle.core_steps.specs.Places.{numbers, values, values_at}
+use Rattle.core_due.specs.core_steps.specs.Places.{numbers, values, values_at}
 use Rattle.list_words.specs.Counts.{Each}
 use Rattle.seat_steps.specs.{Floors.{IsAround, IsSeated, Stands, kept_by}, Looks.Sees, Takes.TakesTurn, declared.floor.{Floor.Floor, Player.Player}}
 use Rattle.seat_steps.proofs.{Left.no-numbers, Told.kept-told}
 use Rattle.turn_table.specs.{Numbered.{numbers_of, value_of}, Seat.{cell_count, free_rank}}
 use Rattle.turn_table.proofs.Numbered.{below_length, find_append_first, find_append_second, find_here, find_same}
-use Rattle.volap_cell.specs.{Cells.{CellValue, cell_of, ledger_in}, Setting.{Setting, ledger_cell}, State.exchange, Steps.history_in, Values.{ActorValue, actor_of}, World.{MustKeep, World}, declared.cell.Cell.Cell}
-use Rattle.volap_cell.specs.Setting as setting
+use Rattle.core_due.specs.volap_cell.specs.{Cells.{CellValue, cell_of, ledger_in}, Setting.{Setting, ledger_cell}, State.exchange, Steps.history_in, Values.{ActorValue, actor_of}, World.{MustKeep, World}, declared.cell.Cell.Cell}
+use Rattle.core_due.specs.volap_cell.specs.Setting as setting
 use Rattle.volap_turns.specs.{Law.others-free, Rows.{AreAt, IsThere, cell_for, cells_for, maybe_cell}}
 use Rattle.volap_turns.proofs.Known.{about, alone, is, me, setting-is}
 

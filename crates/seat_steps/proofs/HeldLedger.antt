@@ -3,14 +3,14 @@ use Rattle.std.proofs.Common.{◌≡◌, ◌∙◌, ℕ, List, [], ◌∷◌, �
 use Rattle.std.specs.Prelude.{option_map}
 use mathlib.Core.Option.{some, none, some-ne-none}
 use mathlib.Core.Option as maybe
-use Rattle.core_steps.specs.Places.{numbers, swaps, values, values_at}
+use Rattle.core_due.specs.core_steps.specs.Places.{numbers, swaps, values, values_at}
 use Rattle.dim_hierarchy.specs.Dimension.{Dimension}
 use Rattle.list_words.specs.Counts.{Each}
 use Rattle.row_ledger.specs.declared.event.Event.{Event}
 use Rattle.seat_steps.specs.{Made.HasMade, declared.floor.Player.Player}
 use Rattle.turn_table.specs.{Numbered.value_of, Views.seen_of}
 use Rattle.turn_table.proofs.Numbered.{none_same}
-use Rattle.volap_cell.specs.{Cells.{CellValue, FreeCell, cell_of, ledger_in}, ImageKinds.Pushes, Kinds.Does, Setting.{Setting, ledger_cell}, State.{Exchange, changes_of, exchange_if}, Values.{ActorValue, actor_of}, World.{Change, World, change}, declared.cell.Cell.Cell, declared.kind.Kind.Kind}
+use Rattle.core_due.specs.volap_cell.specs.{Cells.{CellValue, FreeCell, cell_of, ledger_in}, ImageKinds.Pushes, Kinds.Does, Setting.{Setting, ledger_cell}, State.{Exchange, changes_of, exchange_if}, Values.{ActorValue, actor_of}, World.{Change, World, change}, declared.cell.Cell.Cell, declared.kind.Kind.Kind}
 use Rattle.volap_turns.proofs.Known.{there-same}
 use Rattle.volap_turns.specs.{Rows.{AreAt, IsThere, cells_for, maybe_cell}, Rule.history_of}
 

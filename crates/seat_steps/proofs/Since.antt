@@ -9,7 +9,7 @@ use Rattle.seat_steps.proofs.{Around.bare-held, HeldLedger.PushesBy}
 use Rattle.seat_steps.specs.{Booked.{HasBooked, HasPushed, IsAsBefore, IsUnchanged}, Floors.{Stands, kept_by, kept_on}, Takes.IsSameActor, declared.floor.{Floor.Floor, Player.Player}}
 use Rattle.turn_table.proofs.Numbered.{starts_self}
 use Rattle.turn_table.specs.Numbered.{Extends}
-use Rattle.volap_cell.specs.{Cells.CellValue, Errands.way_of, Setting.Setting, Values.{ActorValue, actor_of}, World.World, declared.kind.Kind.Kind}
+use Rattle.core_due.specs.volap_cell.specs.{Cells.CellValue, Errands.way_of, Setting.Setting, Values.{ActorValue, actor_of}, World.World, declared.kind.Kind.Kind}
 
 -- What is known where a step went.
 

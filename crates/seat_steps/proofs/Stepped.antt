@@ -3,13 +3,13 @@ use Rattle.std.proofs.Common.{◌≡◌, ◌≢◌, ◌∙◌, ℕ, List, Option
 use Rattle.std.specs.Prelude.{OnErr, OnOk}
 use mathlib.Core.Logic.{dite}
 use native.Mathlib.Decide.{ℕ_discrete}
-use Rattle.core_steps.specs.Steps.{Went}
+use Rattle.core_due.specs.core_steps.specs.Steps.{Went}
 use Rattle.row_ledger.specs.declared.event.Event.{Event}
 use Rattle.seat_steps.specs.{Floors.{AreTold, IsSeated, kept_by}, Made.{HasMade, IsKeptBy}, Takes.GaveAll, declared.floor.{Floor.Floor, Player.Player}}
 use Rattle.seat_steps.proofs.Told.{kept-told}
 use Rattle.turn_table.specs.{Numbered.{after_first, value_of}, Seat.{SeatValue, free_rank}, declared.view.View.View}
 use Rattle.turn_table.proofs.Numbered.{find_same, replace_else}
-use Rattle.volap_cell.specs.{Cells.CellValue, Setting.Setting, Values.{ActorValue, actor_of}, World.World, declared.actor.Actor.Actor, declared.cell.Cell.Cell, declared.kind.Kind.Kind}
+use Rattle.core_due.specs.volap_cell.specs.{Cells.CellValue, Setting.Setting, Values.{ActorValue, actor_of}, World.World, declared.actor.Actor.Actor, declared.cell.Cell.Cell, declared.kind.Kind.Kind}
 use Rattle.volap_turns.specs.{Rows.cells_for, Seats.{HasStepped, Holds, IsStillHeld}}
 use Rattle.volap_turns.proofs.Turned.{numbers-first}
 

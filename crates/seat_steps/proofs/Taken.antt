@@ -11,8 +11,8 @@ use Rattle.seat_steps.specs.{Floors.{AreTold, IsSeated, kept_by}, Takes.{IsSameA
 use Rattle.seat_steps.proofs.{Left.numbers-without, Told.told-more}
 use Rattle.turn_table.specs.{Numbered.{Extends, numbers_of, value_of, without}, Seat.SeatValue, Views.{after_refusal, after_release, after_take, with_note}, declared.turns.Busy.Busy}
 use Rattle.turn_table.proofs.Seats.{numbers_append}
-use Rattle.volap_cell.specs.{Setting.ledger_cell, Values.{ActorValue, actor_of}, World.MustKeep, declared.actor.Actor.Actor, declared.cell.Cell.Cell}
-use Rattle.volap_cell.proofs.Outcomes.{on-ok}
+use Rattle.core_due.specs.volap_cell.specs.{Setting.ledger_cell, Values.{ActorValue, actor_of}, World.MustKeep, declared.actor.Actor.Actor, declared.cell.Cell.Cell}
+use Rattle.core_due.specs.volap_cell.proofs.Outcomes.{on-ok}
 use Rattle.volap_turns.specs.{Rule.{Needs, history_of}, Seats.{HasActor, Holds}, Wholes.CanBe}
 
 module _ {h : List Dimension} {t : TableId} {s : SeatValue Cell Actor Event} {n : ℕ} {a : Actor} (holds : Holds h t s n a) where

@@ -5,7 +5,7 @@ use Rattle.list_words.specs.Counts.{Each}
 use Rattle.seat_steps.specs.Floors.{AreTold, at_block, kept_by, kept_on}
 use Rattle.turn_table.specs.{Numbered.{HaveOwnNumbers, value_of, without}, Seat.free_rank}
 use Rattle.turn_table.proofs.Numbered.{find_append_first, find_here, without_else}
-use Rattle.volap_cell.specs.{Errands.{IsCarried, RowWay, block_at, way_of}, Values.ActorValue, World.MustKeep}
+use Rattle.core_due.specs.volap_cell.specs.{Errands.{IsCarried, RowWay, block_at, way_of}, Values.ActorValue, World.MustKeep}
 
 -- What is told for a cell.
 

@@ -6,7 +6,7 @@ use mathlib.Core.Logic.{dite}
 use mathlib.Core.Option.{none, some, some-injective, some-ne-none}
 use native.Mathlib.Decide.{ℕ_discrete}
 use Rattle.core_due.specs.Ready.{IsPrepared}
-use Rattle.core_steps.specs.{Places.{numbers, one_at, swaps, three_at, two_at, values}, Steps.Went}
+use Rattle.core_due.specs.core_steps.specs.{Places.{numbers, one_at, swaps, three_at, two_at, values}, Steps.Went}
 use Rattle.dim_hierarchy.specs.Dimension.{Dimension}
 use Rattle.list_words.specs.Counts.{Among, Each}
 use Rattle.list_words.proofs.Each.{each-map}
@@ -16,7 +16,7 @@ use Rattle.seat_steps.proofs.{Around.{around, asked-held, still-held, told-there
 use Rattle.seat_steps.specs.{Booked.{HasBooked, IsDue, IsUpToLedger}, Floors.{IsAround, IsSeated, Stands}, Made.HasMade, Takes.Takes, declared.floor.{Floor.Floor, Player.Player}}
 use Rattle.turn_table.proofs.Numbered.{find_else, find_here, find_same, none_same}
 use Rattle.turn_table.specs.{Numbered.{numbers_of, value_of}, Seat.{IsInOrder, cell_count}, Views.seen_of}
-use Rattle.volap_cell.specs.{Cells.{CellValue, cell_of, ledger_in}, Setting.{Setting, actor_count, ledger_cell, site_in}, State.{AreDifferent, Exchange, changes_of, exchange_if}, Steps.{IsKept, history_in}, Values.{ActorValue, actor_of}, World.{Agrees, MustKeep, World, after, put}, declared.cell.Cell.Cell, declared.kind.Kind.Kind}
+use Rattle.core_due.specs.volap_cell.specs.{Cells.{CellValue, cell_of, ledger_in}, Setting.{Setting, actor_count, ledger_cell, site_in}, State.{AreDifferent, Exchange, changes_of, exchange_if}, Steps.{IsKept, history_in}, Values.{ActorValue, actor_of}, World.{Agrees, MustKeep, World, after, put}, declared.cell.Cell.Cell, declared.kind.Kind.Kind}
 use Rattle.volap_turns.specs.{Rows.{AreAt, IsThere, cells_for, maybe_cell}, Rule.history_of}
 use Rattle.volap_turns.proofs.{Known.{swaps-found, there-same}, Placed.length-numbers}
 

@@ -2,13 +2,13 @@
 use Rattle.std.specs.Prelude.{ℕ, ◌≡◌, ◌<◌, ⊤, List, [], ◌∷◌, ◌++◌, length, Option, Some, option_and_then}
 use mathlib.Core.Option.{some}
 use Rattle.core_due.specs.Ready.{IsPrepared}
-use Rattle.core_steps.specs.Places.{numbers}
+use Rattle.core_due.specs.core_steps.specs.Places.{numbers}
 use Rattle.dim_hierarchy.specs.Dimension.{Dimension}
 use Rattle.row_ledger.specs.{Past.{event_at, session_in}, Right.IsRight, declared.event.Event.Event}
 use Rattle.script_run.specs.Places.{begins_of}
 use Rattle.seat_steps.specs.{Floors.{IsAround, IsSeated, Stands}, Made.{HasMade, IsKeptBy}, Takes.Takes, declared.floor.{Floor.Floor, Player.Player}}
 use Rattle.turn_table.specs.{Numbered.{Extends, numbers_of, value_of}, Seat.IsInOrder}
-use Rattle.volap_cell.specs.{Cells.CellValue, Setting.{Setting, ledger_cell, site_in}, Values.{ActorValue, actor_of}, World.World, declared.cell.Cell.Cell, declared.kind.Kind.Kind}
+use Rattle.core_due.specs.volap_cell.specs.{Cells.CellValue, Setting.{Setting, ledger_cell, site_in}, Values.{ActorValue, actor_of}, World.World, declared.cell.Cell.Cell, declared.kind.Kind.Kind}
 use Rattle.volap_turns.specs.{Rows.AreAt, Rule.history_of}
 
 -- the same actor, whatever rooms are in it, which has seen as much or more

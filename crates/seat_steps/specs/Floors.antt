@@ -1,12 +1,12 @@
 -- An actor at its seat: what holds of it while it holds cells, and between its steps.
 use Rattle.std.specs.Prelude.{ℕ, ◌≡◌, ◌≢◌, ◌<◌, List, [], ◌∷◌, Option, Some, None}
 use mathlib.Core.Option.{some}
-use Rattle.core_told.specs.Pulling.{IsPulling}
+use Rattle.volap_turns.specs.core_told.specs.Pulling.{IsPulling}
 use Rattle.list_words.specs.Counts.{Each}
 use Rattle.seat_steps.specs.declared.floor.{Floor.Floor, Player.Player}
 use Rattle.turn_table.specs.{Numbered.value_of, Seat.{cell_count, free_rank}}
-use Rattle.volap_cell.specs.{Cells.cell_of, Errands.{RowWay, block_at, way_of}, Setting.{Setting, ledger_cell}, Steps.{Inv, history_in}, Values.{ActorValue, actor_of}, World.{MustKeep, World}, declared.actor.Actor.Actor, declared.cell.Cell.Cell}
-use Rattle.volap_cell.specs.Setting as setting
+use Rattle.core_due.specs.volap_cell.specs.{Cells.cell_of, Errands.{RowWay, block_at, way_of}, Setting.{Setting, ledger_cell}, Steps.{Inv, history_in}, Values.{ActorValue, actor_of}, World.{MustKeep, World}, declared.actor.Actor.Actor, declared.cell.Cell.Cell}
+use Rattle.core_due.specs.volap_cell.specs.Setting as setting
 use Rattle.volap_turns.specs.Seats.{Holds}
 
 -- The cell that an actor must keep, with the rank that is told for it.

@@ -6,7 +6,7 @@ use Rattle.mapping_table.specs.declared.place.Where.TheVariants as where_is
 use Rattle.seat_steps.specs.declared.{floor.Player.Player, looks.Lead.Lead}
 use Rattle.seat_steps.specs.declared.looks.Lead.TheVariants as lead
 use Rattle.turn_table.specs.Numbered.{value_of}
-use Rattle.volap_cell.specs.{Cells.{CellValue, cell_of}, declared.cell.Cell.Cell}
+use Rattle.core_due.specs.volap_cell.specs.{Cells.{CellValue, cell_of}, declared.cell.Cell.Cell}
 
 -- P holds of what the held cell has
 abbrev pub Sees : Player → ℕ → (CellValue → Type 0) → Type 0

@@ -1,10 +1,10 @@
 -- What a step of an actor at its seat comes to.
 use Rattle.std.specs.Prelude.{ℕ, ◌≡◌, List, Option}
-use Rattle.core_steps.specs.{Places.values, Steps.Went}
+use Rattle.core_due.specs.core_steps.specs.{Places.values, Steps.Went}
 use Rattle.dim_hierarchy.specs.Dimension.{Dimension}
 use Rattle.seat_steps.specs.{Floors.{AreTold, kept_by}, declared.floor.Player.Player}
 use Rattle.turn_table.specs.{Numbered.{after_first, numbers_of, value_of}, Views.seen_of}
-use Rattle.volap_cell.specs.{Cells.CellValue, Setting.{Setting, ledger_cell}, Values.{ActorValue, actor_of}, World.World, declared.cell.Cell.Cell, declared.kind.Kind.Kind}
+use Rattle.core_due.specs.volap_cell.specs.{Cells.CellValue, Setting.{Setting, ledger_cell}, Values.{ActorValue, actor_of}, World.World, declared.cell.Cell.Cell, declared.kind.Kind.Kind}
 use Rattle.volap_turns.specs.{Rows.cells_for, Rule.history_of}
 
 -- whatever the step makes of its cells and its actor, the cell that the actor then must keep is held behind the first

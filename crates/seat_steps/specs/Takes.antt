@@ -2,7 +2,7 @@
 use Rattle.std.specs.Prelude.{ℕ, ◌≡◌, [], ◌∷◌, ◌++◌, Option, Some}
 use Rattle.seat_steps.specs.declared.floor.Player.{Player}
 use Rattle.turn_table.specs.{Numbered.{Extends, without}, Views.after_refusal}
-use Rattle.volap_cell.specs.declared.cell.Cell.{Cell}
+use Rattle.core_due.specs.volap_cell.specs.declared.cell.Cell.{Cell}
 
 -- the same actor at the same seat, which has seen as much or more
 pub record IsSameActor (was now : Player) : Type 0 where

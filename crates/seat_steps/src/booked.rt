@@ -4,14 +4,14 @@ ghost use Rattle.seat_steps.specs.Booked.{HasBooked, IsAsBefore, IsDue, IsKeptAn
 ghost use Rattle.seat_steps.specs.Floors.{IsSeated, Stands};
 ghost use Rattle.seat_steps.specs.Takes.{Takes};
 ghost use Rattle.turn_table.specs.Seat.{cell_count};
-ghost use Rattle.volap_cell.specs.Setting.{Setting};
-ghost use Rattle.volap_cell.specs.Values.{actor_of};
-ghost use Rattle.volap_cell.specs.World.{World};
+ghost use Rattle.core_due.specs.volap_cell.specs.Setting.{Setting};
+ghost use Rattle.core_due.specs.volap_cell.specs.Values.{actor_of};
+ghost use Rattle.core_due.specs.volap_cell.specs.World.{World};
 
 use crate::floor::{Floor, Player};
 use crate::made::make;
 use crate::takes::take;
-use core_steps::{CellStep, ledger_place};
+use core_due::core_steps::{CellStep, ledger_place};
 use std::alloc::{AllocError, Global};
 use std::sync::Wait;
 

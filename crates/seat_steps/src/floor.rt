@@ -1,8 +1,8 @@
 //! What all seats share, and an actor at its seat.
+use core_due::volap_cell::Actor;
 use dim_hierarchy::Hierarchy;
 use row_ledger::Use;
 use turn_table::{Seat, TurnTable};
-use volap_cell::Actor;
 use volap_turns::Volap;
 
 /// What all seats of a core share: its dimensions, its settings, and its cells under turns.

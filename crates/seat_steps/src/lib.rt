@@ -13,3 +13,8 @@ pub use floor::{Floor, Player};
 pub use looks::{Lead, is_leaf_at, lead_at, may_enter_at};
 pub use made::make;
 pub use takes::{give_all, take, try_take};
+
+// What stands below is passed on.
+pub use core_due;
+pub use core_due::{core_steps, link_descent, shard_store, volap_cell};
+pub use volap_turns;

@@ -6,14 +6,14 @@ ghost use Rattle.dc_node.specs.Block.{is_leaf};
 ghost use Rattle.seat_steps.specs.Floors.{IsSeated};
 ghost use Rattle.seat_steps.specs.Looks.{Sees, lead_of};
 ghost use Rattle.turn_table.specs.Numbered.{value_of};
-ghost use Rattle.volap_cell.specs.Cells.{block_in, cell_of, where_in};
-ghost use Rattle.volap_cell.specs.Values.{actor_of};
-ghost use Rattle.volap_cell.specs.declared.cell.Cell.{Cell};
+ghost use Rattle.core_due.specs.volap_cell.specs.Cells.{block_in, cell_of, where_in};
+ghost use Rattle.core_due.specs.volap_cell.specs.Values.{actor_of};
+ghost use Rattle.core_due.specs.volap_cell.specs.declared.cell.Cell.{Cell};
 
 use crate::floor::{Floor, Player};
 use core_due::lets_in;
+use core_due::volap_cell::{Actor, Cell};
 use mapping_table::Where;
-use volap_cell::{Actor, Cell};
 
 /// Where the table of a worker has a shard.
 #[derive(Clone, Copy)]

@@ -1,17 +1,17 @@
 //! A step of an actor at its seat, whatever its kind.
 ghost use Rattle.std.specs.Prelude.{◌≡◌, ◌<◌, ◌≤◌, false, length, IsOk, OnErr, OnOk};
-ghost use Rattle.core_steps.specs.Places.{values};
+ghost use Rattle.core_due.specs.core_steps.specs.Places.{values};
 ghost use Rattle.seat_steps.specs.Floors.{IsSeated, Stands};
 ghost use Rattle.seat_steps.specs.Made.{HasMade, IsKeptBy};
 ghost use Rattle.seat_steps.specs.Takes.{GaveAll};
 ghost use Rattle.turn_table.specs.Numbered.{Extends};
-ghost use Rattle.volap_cell.specs.Values.{actor_of};
+ghost use Rattle.core_due.specs.volap_cell.specs.Values.{actor_of};
 ghost use Rattle.volap_turns.specs.Rows.{AreAt, cells_for};
 ghost use Rattle.volap_turns.specs.Seats.{CanSee};
 
 use crate::floor::{Floor, Player};
 use crate::takes::give_all;
-use core_steps::CellStep;
+use core_due::core_steps::CellStep;
 use std::alloc::{AllocError, Global};
 use volap_turns::step;
 

@@ -6,14 +6,14 @@ ghost use Rattle.seat_steps.specs.Floors.{IsSeated, Stands, at_block, kept_by};
 ghost use Rattle.seat_steps.specs.Takes.{GaveAll, Gives, IsSameActor, Takes, TakesTurn, WasRefused};
 ghost use Rattle.turn_table.specs.Numbered.{value_of};
 ghost use Rattle.turn_table.specs.Seat.{IsInOrder, cell_count};
-ghost use Rattle.volap_cell.specs.Values.{actor_of};
-ghost use Rattle.volap_cell.specs.World.{MustKeep};
+ghost use Rattle.core_due.specs.volap_cell.specs.Values.{actor_of};
+ghost use Rattle.core_due.specs.volap_cell.specs.World.{MustKeep};
 ghost use Rattle.volap_turns.specs.Rows.{IsThere};
 
 use crate::floor::{Floor, Player};
+use core_due::volap_cell::{Actor, Errand, RowErrand, Task, Way};
 use std::sync::Wait;
 use turn_table::Busy;
-use volap_cell::{Actor, Errand, RowErrand, Task, Way};
 
 /// The actor waits for the turn of one more cell.
 pub fn take<R: Wait>(rt: &R, floor: &Floor, player: &mut Player, cell: u32, rank: u8)

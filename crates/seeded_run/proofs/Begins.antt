@@ -1,7 +1,7 @@
 -- A step that begins the next command of its session keeps what holds between the steps of a phase.
 use Rattle.std.proofs.{Common.{◌≡◌, ◌≢◌, ◌∙◌, ℕ, zero, suc, ◌+◌, ◌-◌, ◌<◌, ◌≤◌, ◌⊎◌, inl, inr, Bool, true, false, List, [], ◌∷◌, ◌++◌, length, take, drop, Option, Some, None, refl, sym, ap, subst, arith, append_assoc, length-append}, lemmas.Bool.{eq-eqb, ne_eqb}, lemmas.List.length-take-le, lemmas.Option.slice_get_within}
 use Rattle.std.specs.{List.slice_index_or, Option.option_map_or, Prelude.{◌==◌, ◌||◌, IsTrue, slice_get}}
-use Rattle.volap_cell.proofs.{Desks.Lists.splits-at, OneEvent.Noted.end-begins-none}
+use Rattle.core_pages.specs.volap_cell.proofs.{Desks.Lists.splits-at, OneEvent.Noted.end-begins-none}
 use Rattle.dim_hierarchy.specs.Dimension.{Dimension}
 use Rattle.row_ledger.specs.{Classes.class_of, Past.{ends_itself, event_at, has_ended, is_over, session_in}, Settled.pulls_since, declared.event.Event.Event, declared.settings.Call.Call, declared.settings.Use.Use}
 use Rattle.row_ledger.proofs.Positions.{event_at-here}
@@ -10,7 +10,7 @@ use Rattle.script_form.specs.declared.script.Command.{Command}
 use Rattle.script_form.specs.declared.script.Command.TheVariants as script
 use Rattle.script_run.proofs.{Begin.begins-own, Between.{get-behind, none-count, order-begin-law}, InPhase.{phase_begin_law, rank_law}, NextCommand.take-front, PhaseEnds.get-first, PlaceFacts.{begins_of-here, begins_of-other, count_of-append}, Whole.get-some}
 use Rattle.script_run.specs.{Between.IsInOrder, Parts.place_in, Phases.{closes, is_closing, ranks}, Places.{begins_of, count_of, is_over_at, session_of}, Runs.Begins, Streams.{NoneCloses, IsInPhase, IsReady, StepsOn}}
-use Rattle.volap_cell.specs.{Ghost.Ghost, ImageKinds.doing, Invariant.InvWith, Setting.Setting, Steps.history_in, View.view, World.World, declared.command.Command.Command as OpenCommand, declared.command.Work.Work, declared.role.Role.TheVariants.Hand}
+use Rattle.core_pages.specs.volap_cell.specs.{Ghost.Ghost, ImageKinds.doing, Invariant.InvWith, Setting.Setting, Steps.history_in, View.view, World.World, declared.command.Command.Command as OpenCommand, declared.command.Work.Work, declared.role.Role.TheVariants.Hand}
 use Rattle.core_told.proofs.{Pulled.{begin-pulls-none, deed-session, pulled-none}, Told.{doing-is, none-some, told-law}}
 use Rattle.core_told.specs.Told.{HasPulled, OfBeginning, OfDeed, OfEnd, OfNothing, OfPage, OfPull, OpensCommand, OpensNone, OpensOne, TellsBeginning, Told, begins_closing, is_closing_work, is_of_part}
 use Rattle.seeded_run.proofs.{Counted.counted-law, Cursors.Cursors.{first-law, is-one}, Cursors.Firsts.{IsFirst, first-at, first-fails, first-pass, first-some, over-at, over-place, over-still, over_in, place-behind, place-now, place_since}, Holding.LeftAlone.{IsAtCommand, alone-parts, apart, closing-alone, does-nothing, next-due, same-or-not}, Phases.Keeps.{Own, OwnPulls, behind-by, can-first, idle-from, is-at-command, kept-by, one-more, opened-other}, Phases.PhaseRuns.{is-actor, low-or-high, opened-none, past-over, rest-past}, Scripts.hand-behind}

@@ -5,10 +5,10 @@ use Rattle.dim_hierarchy.specs.Dimension.{Dimension}
 use Rattle.query_router.specs.Desk.{DeskValue}
 use Rattle.script_form.specs.declared.script.Command.{Command}
 use Rattle.script_form.specs.declared.script.Command.TheVariants as script
-use Rattle.volap_cell.specs.{Errands.way_of, Setting.Setting, Steps.history_in, Values.{ActorValue, ErrandValue, actor_of}, World.World, declared.actor.Actor.Actor, declared.command.Command.Command as OpenCommand, declared.kind.Kind.Kind, declared.role.Role.Role}
-use Rattle.volap_cell.specs.declared.kind.Kind.TheVariants as kind
-use Rattle.volap_cell.specs.declared.role.Role.TheVariants as role
-use Rattle.volap_cell.proofs.Cells.States.{same-actor, stands}
+use Rattle.core_pages.specs.volap_cell.specs.{Errands.way_of, Setting.Setting, Steps.history_in, Values.{ActorValue, ErrandValue, actor_of}, World.World, declared.actor.Actor.Actor, declared.command.Command.Command as OpenCommand, declared.kind.Kind.Kind, declared.role.Role.Role}
+use Rattle.core_pages.specs.volap_cell.specs.declared.kind.Kind.TheVariants as kind
+use Rattle.core_pages.specs.volap_cell.specs.declared.role.Role.TheVariants as role
+use Rattle.core_pages.specs.volap_cell.proofs.Cells.States.{same-actor, stands}
 use Rattle.core_due.proofs.Released.{reuse-told}
 use Rattle.core_due.specs.{Due.desk_of, Look.world_by, Reuses.reuse_due, Wants.is_carried_at}
 use Rattle.core_told.specs.Told.{is_of_part}

@@ -4,9 +4,9 @@ use Rattle.std.proofs.{Common.{◌≡◌, ◌∙◌, ◌⊎◌, inl, inr, ℕ, B
 use Rattle.dim_hierarchy.specs.Dimension.{Dimension}
 use Rattle.row_ledger.specs.declared.event.Event.{Event}
 use Rattle.list_words.proofs.Truth.{on_bool, eqb-self}
-use Rattle.volap_cell.specs.{AdminKinds.{Finishes, GivesUp}, Cells.{CellValue, ledger_in}, ImageKinds.{CountsSession, DoesNote, DoesNoteWith, OfUnknown, OfRefused, OfCalled, OfLeft, OfShown, OfEnded, OfCount, OfCalledAsking, OfUnrouted, OfQuery}, Kinds.Does, Setting.ledger_cell, Steps.history_in, Values.{ActorValue, JobValue}, World.{Agrees, Change, World, after}, declared.command.Work.Work, declared.kind.Kind.Kind}
-use Rattle.volap_cell.specs.declared.command.Work.TheVariants as work_is
-use Rattle.volap_cell.specs.declared.kind.Kind.TheVariants as kind
+use Rattle.core_pages.specs.volap_cell.specs.{AdminKinds.{Finishes, GivesUp}, Cells.{CellValue, ledger_in}, ImageKinds.{CountsSession, DoesNote, DoesNoteWith, OfUnknown, OfRefused, OfCalled, OfLeft, OfShown, OfEnded, OfCount, OfCalledAsking, OfUnrouted, OfQuery}, Kinds.Does, Setting.ledger_cell, Steps.history_in, Values.{ActorValue, JobValue}, World.{Agrees, Change, World, after}, declared.command.Work.Work, declared.kind.Kind.Kind}
+use Rattle.core_pages.specs.volap_cell.specs.declared.command.Work.TheVariants as work_is
+use Rattle.core_pages.specs.volap_cell.specs.declared.kind.Kind.TheVariants as kind
 use Rattle.seeded_run.specs.Measure.{CountedLaw}
 
 -- the actor is counted as before

@@ -4,20 +4,20 @@ use Rattle.std.specs.Prelude.{option_and_then, option_map}
 use Rattle.cell_stock.specs.declared.purse.Spare.{Spare}
 use Rattle.core_due.specs.{Spares.{last_spare, spare_before}, Splits.split_of, WorksReady.{IsInsteadReady, IsStopFor, MayMakeBook, MayMakeJob, MayMakeNote, MaySplit}, declared.works.WorkDue.WorkDue}
 use Rattle.core_due.specs.declared.works.WorkDue.TheVariants.{Books, Jobs, Shows, Splits}
-use Rattle.core_steps.specs.{Books.{EndsIn, book_kind, book_may_fail, book_places, book_tells}, Jobs.{job_kind, job_may_fail}, Steps.{IsFurther, IsSame, IsTold}, declared.books.BookStep.BookStep, declared.jobs.JobStep.JobStep}
-use Rattle.core_steps.specs.declared.books.BookStep.TheVariants as book
-use Rattle.core_steps.specs.declared.jobs.JobStep.TheVariants as job
-use Rattle.core_steps.specs.declared.notes.NoteStep.TheVariants as note
+use Rattle.core_due.specs.core_steps.specs.{Books.{EndsIn, book_kind, book_may_fail, book_places, book_tells}, Jobs.{job_kind, job_may_fail}, Steps.{IsFurther, IsSame, IsTold}, declared.books.BookStep.BookStep, declared.jobs.JobStep.JobStep}
+use Rattle.core_due.specs.core_steps.specs.declared.books.BookStep.TheVariants as book
+use Rattle.core_due.specs.core_steps.specs.declared.jobs.JobStep.TheVariants as job
+use Rattle.core_due.specs.core_steps.specs.declared.notes.NoteStep.TheVariants as note
 use Rattle.dim_hierarchy.specs.Dimension.{Dimension}
 use Rattle.list_words.proofs.Elements.{Some-same}
 use Rattle.row_ledger.specs.{declared.class.Subject.Subject, declared.event.Event.Event}
 use Rattle.row_ledger.specs.declared.settings.How.TheVariants.{NoMemory}
 use Rattle.seeded_run.specs.{Arms.{GoesOnWithCommand, TellsIfNote}, Drives.{GivesWay, HasActor, MayGiveWay, Stops, StopsAtDesk, StopsJob, instead_of, is_balance, is_balance_work, is_past_freeze, kind_of_stop}, Instead.in_place_of}
 use Rattle.seeded_run.proofs.{Instead.falls-to, States.{further-then, of-actor, some-actor, still-same}}
-use Rattle.volap_cell.proofs.Cells.States.{of-it, stands}
-use Rattle.volap_cell.specs.{Setting.ledger_cell, State.{Has, IsWorldOf}, Steps.history_in, Values.{ActorValue, actor_of}, World.World, declared.actor.Actor.Actor, declared.command.Work.Work, declared.kind.Kind.Kind, declared.state.State.State}
-use Rattle.volap_cell.specs.declared.command.Work.TheVariants as work_is
-use Rattle.volap_cell.specs.declared.kind.Kind.TheVariants as kind
+use Rattle.core_pages.specs.volap_cell.proofs.Cells.States.{of-it, stands}
+use Rattle.core_pages.specs.volap_cell.specs.{Setting.ledger_cell, State.{Has, IsWorldOf}, Steps.history_in, Values.{ActorValue, actor_of}, World.World, declared.actor.Actor.Actor, declared.command.Work.Work, declared.kind.Kind.Kind, declared.state.State.State}
+use Rattle.core_pages.specs.volap_cell.specs.declared.command.Work.TheVariants as work_is
+use Rattle.core_pages.specs.volap_cell.specs.declared.kind.Kind.TheVariants as kind
 
 -- A step that is due is made.
 

@@ -4,11 +4,11 @@ use Rattle.std.specs.{Option.option_map_or, Prelude.⊤}
 use Rattle.core_due.specs.{Parts.due_kind, Ready.IsStateOf, ReuseLaws.MayMakeReuse, Wants.{is_block_free, is_drained, wanted}, WorkLaws.IsAtWork, Works.{work_due, work_due_kind}, WorksReady.{AreBytes, IsWorkReady}, declared.parts.PartDue.PartDue, declared.works.WorkDue.WorkDue}
 use Rattle.core_due.specs.declared.works.WorkDue.TheVariants as work_is_due
 use Rattle.core_due.proofs.{InStates.may-make, ReusesPrepared.reuse-prepared}
-use Rattle.core_steps.specs.{Reuses.{reuse_asks, reuse_places}, Steps.IsSound, declared.reuses.ReuseStep.ReuseStep}
-use Rattle.core_steps.specs.declared.books.BookStep.TheVariants as book
-use Rattle.core_steps.specs.declared.jobs.JobStep.TheVariants as job
+use Rattle.core_due.specs.core_steps.specs.{Reuses.{reuse_asks, reuse_places}, Steps.IsSound, declared.reuses.ReuseStep.ReuseStep}
+use Rattle.core_due.specs.core_steps.specs.declared.books.BookStep.TheVariants as book
+use Rattle.core_due.specs.core_steps.specs.declared.jobs.JobStep.TheVariants as job
 use Rattle.script_form.specs.declared.script.Command.{Command}
-use Rattle.volap_cell.specs.{Errands.taken_of, Ghost.Ghost, Invariant.InvWith, Setting.{Setting, actor_count}, Sights.IsIdle, Steps.history_in, Values.ErrandValue, View.view, World.World, declared.command.Command.Command as OpenCommand, declared.command.Work.Work, declared.kind.Kind.Kind, declared.kind.Kind.TheVariants.{Reuse, TakePart}}
+use Rattle.core_pages.specs.volap_cell.specs.{Errands.taken_of, Ghost.Ghost, Invariant.InvWith, Setting.{Setting, actor_count}, Sights.IsIdle, Steps.history_in, Values.ErrandValue, View.view, World.World, declared.command.Command.Command as OpenCommand, declared.command.Work.Work, declared.kind.Kind.Kind, declared.kind.Kind.TheVariants.{Reuse, TakePart}}
 use Rattle.core_told.specs.Told.{is_of_part}
 use Rattle.seeded_run.specs.{Drives.{MayEndInstead, MayGiveWay, MayGoOn, MayShow, MayTake}, Due.is_alone, Instead.StandsFor, Machine.{IsDueNow, IsDueStep, IsPhaseKept, about_in, phase_of, world_of}, Rests.{PhaseRun, rest_of}, Steps.is_for_part, declared.machine.Running.Running}
 use Rattle.seeded_run.specs.declared.turn.DueStep.TheVariants.{AtPart, AtWork, Reuses, Takes}

@@ -4,8 +4,8 @@ use Rattle.std.specs.Option.{option_map_or}
 use Rattle.dim_hierarchy.specs.Dimension.{Dimension}
 use Rattle.row_ledger.specs.declared.settings.Use.{Use}
 use Rattle.script_form.specs.declared.script.Command.{Command}
-use Rattle.volap_cell.specs.{Errands.way_of, Setting.Setting, Sights.IsIdle, State.IsWorldOf, Steps.history_in, Values.{ActorValue, actor_of}, World.World, declared.actor.Actor.Actor, declared.cell.Cell.Cell, declared.kind.Kind.Kind, declared.kind.Kind.TheVariants.TakePart, declared.role.Role.Role}
-use Rattle.volap_cell.proofs.Cells.States.{same-actor, stands}
+use Rattle.core_pages.specs.volap_cell.specs.{Errands.way_of, Setting.Setting, Sights.IsIdle, State.IsWorldOf, Steps.history_in, Values.{ActorValue, actor_of}, World.World, declared.actor.Actor.Actor, declared.cell.Cell.Cell, declared.kind.Kind.Kind, declared.kind.Kind.TheVariants.TakePart, declared.role.Role.Role}
+use Rattle.core_pages.specs.volap_cell.proofs.Cells.States.{same-actor, stands}
 use Rattle.core_due.specs.{Due.hand_kind, Look.{setting_by, world_by}, Reuses.reuse_for, Wants.{is_carried_at, meets}}
 use Rattle.seeded_run.specs.{Core.IsCore, Due.{actor_kind, free_kind, is_alone, kind_or}, DueSteps.{KnowsBytes, actor_step, due_step, free_step, step_due, step_if_free, step_or, step_where}, Hands.{AreFreeHands, IsFreeHand, IsFreeHandAt}, Machine.{IsDueStep, IsPhaseHeld, IsPhaseKept, KnowsHands, KnowsOtherHands, about_in, phase_of, step_in, world_of}, Rests.{PhaseRun, rest_of}, Survey.{IsSurvey, is_awaited}, Takes.carries_at, declared.hands.FreeHands.FreeHands, declared.machine.Running.Running, declared.survey.Survey.Survey, declared.turn.DueStep.DueStep}
 use Rattle.seeded_run.specs.declared.turn.DueStep.TheVariants.{Takes}

@@ -2,8 +2,8 @@
 use Rattle.std.proofs.Common.{◌≡◌, ◌∙◌, inl, inr, Option, Some, None, refl, sym, ap, Bool, true, false}
 use Rattle.script_form.specs.declared.script.Command.{Command}
 use Rattle.script_form.specs.declared.script.Command.TheVariants as script
-use Rattle.volap_cell.specs.declared.kind.Kind.{Kind}
-use Rattle.volap_cell.specs.declared.kind.Kind.TheVariants as kind
+use Rattle.core_pages.specs.volap_cell.specs.declared.kind.Kind.{Kind}
+use Rattle.core_pages.specs.volap_cell.specs.declared.kind.Kind.TheVariants as kind
 use Rattle.seeded_run.specs.{Commands.beginning_if, Instead.{StandsFor, in_place_of}}
 
 -- of a kind that takes no memory none other is made

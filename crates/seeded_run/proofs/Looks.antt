@@ -4,8 +4,8 @@ use Rattle.std.specs.Prelude.{slice_get}
 use Rattle.dim_hierarchy.specs.Dimension.{Dimension}
 use Rattle.row_ledger.specs.declared.settings.Use.{Use}
 use Rattle.script_form.specs.declared.script.Command.{Command}
-use Rattle.volap_cell.proofs.Cells.States.{same-actor}
-use Rattle.volap_cell.specs.{Setting.Setting, Values.{ActorValue, ErrandValue, actor_of}, World.World, declared.actor.Actor.Actor, declared.cell.Cell.Cell}
+use Rattle.core_pages.specs.volap_cell.proofs.Cells.States.{same-actor}
+use Rattle.core_pages.specs.volap_cell.specs.{Setting.Setting, Values.{ActorValue, ErrandValue, actor_of}, World.World, declared.actor.Actor.Actor, declared.cell.Cell.Cell}
 use Rattle.core_due.specs.Look.{cells_only, setting_by, world_by}
 use Rattle.seeded_run.specs.{Core.IsCore, Due.{actor_kind, due_by, is_alone}, DueSteps.{actor_step, step_due_by}, Look.{IsTold, ahead, alone_by}}
 use Rattle.seeded_run.proofs.{Holding.Others.alone-seen, Seen.{core-seen, kind-told, known_by, step-told}}

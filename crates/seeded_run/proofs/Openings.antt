@@ -8,7 +8,7 @@ use Rattle.script_form.specs.declared.script.Command.{Command}
 use Rattle.script_run.specs.Between.{IsInOrder, IsThrough, OpeningLaw}
 use Rattle.script_roles.specs.Roles.{roles_of}
 use Rattle.script_roles.proofs.Roles.{script-roles}
-use Rattle.volap_cell.specs.{Cells.{CellValue, ledger_in, phase_of}, Filling.{IsOpened, setting_for}, Opening.IsOpening, Reusing.is_gone, Setting.{Setting, site_in}, Steps.history_in, declared.actor.Actor.Actor, declared.cell.Cell.Cell, declared.role.Role.Role, declared.role.Role.TheVariants.Admin}
+use Rattle.core_pages.specs.volap_cell.specs.{Cells.{CellValue, ledger_in, phase_of}, Filling.{IsOpened, setting_for}, Opening.IsOpening, Reusing.is_gone, Setting.{Setting, site_in}, Steps.history_in, declared.actor.Actor.Actor, declared.cell.Cell.Cell, declared.role.Role.Role, declared.role.Role.TheVariants.Admin}
 use Rattle.seeded_run.specs.{Core.{HasCore, IsCore}, Kept.{IsBetween, IsNoneGone}, Phase.most_actors, Worlds.{setting_in, world_in}}
 use Rattle.seeded_run.proofs.{Scripts.role-is, Worlds.{one-setting, only-world}}
 

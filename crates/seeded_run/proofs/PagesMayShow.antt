@@ -5,12 +5,12 @@ use Rattle.std.specs.{List.list_any, Prelude.{⊤, IsSome}}
 use Rattle.core_due.proofs.{BooksHeld.hold-ledger, Holding.{prepared, there}, InStates.{cells-seen, counted, may-make}, WorksAsked.{shown-alone, work-asked}}
 use Rattle.core_due.specs.{Look.{cells_only, setting_by, world_by}, Ready.IsStateOf, WorkLaws.IsAtWork, Works.work_due, WorksReady.{AreBytes, IsNoteAsked, IsShowing}, declared.works.WorkDue.WorkDue}
 use Rattle.core_due.specs.declared.works.WorkDue.TheVariants as work_due_is
-use Rattle.core_image.proofs.Images.Hosts.{host-on, stands-live}
-use Rattle.core_image.specs.NotesDue.{Shows as IsPageOf}
+use Rattle.core_pages.specs.core_image.proofs.Images.Hosts.{host-on, stands-live}
+use Rattle.core_pages.specs.core_image.specs.NotesDue.{Shows as IsPageOf}
 use Rattle.core_pages.proofs.LookedAt.{has-cells, seen-of, valid-of, world-of}
 use Rattle.core_pages.specs.{Looks.IsSeenOf, Seen.{CanSee, CanSeeIn, IsOfGate, IsQuietIn}}
-use Rattle.core_steps.specs.Notes.{note_asks, note_places}
-use Rattle.core_steps.specs.declared.notes.NoteStep.TheVariants as note
+use Rattle.core_due.specs.core_steps.specs.Notes.{note_asks, note_places}
+use Rattle.core_due.specs.core_steps.specs.declared.notes.NoteStep.TheVariants as note
 use Rattle.dim_hierarchy.specs.Dimension.{Dimension}
 use Rattle.list_words.proofs.{Elements.Some-same, Truth.on_bool}
 use Rattle.mapping_table.specs.declared.place.Where.TheVariants as where_is
@@ -19,10 +19,10 @@ use Rattle.row_ledger.specs.{Past.{before, call_at, call_in}, Shards.{Place, fro
 use Rattle.row_ledger.specs.declared.class.Subject.TheVariants as subject
 use Rattle.row_ledger.specs.declared.page.Page.TheVariants as page
 use Rattle.server_image.specs.Registry.{host_of}
-use Rattle.volap_cell.proofs.{Cells.States.{of-it, stands}, OneEvent.Noted.new-told}
-use Rattle.volap_cell.specs.{Cells.{CellValue, gate_shard, phase_of}, Ghost.Ghost, Invariant.InvWith, Opening.IsFresh, Setting.{Setting, actor_count, cell_count, ledger_cell}, Sights.{IsIdle, SeesPage}, State.IsWorldOf, Steps.{Inv, history_in}, Values.{ActorValue, actor_of}, View.view, World.World, declared.command.Work.Work, declared.state.State.State}
-use Rattle.volap_cell.specs.declared.command.Work.TheVariants as work_is
-use Rattle.shard_store.specs.declared.gate.Phase.TheVariants.{Gone}
+use Rattle.core_pages.specs.volap_cell.proofs.{Cells.States.{of-it, stands}, OneEvent.Noted.new-told}
+use Rattle.core_pages.specs.volap_cell.specs.{Cells.{CellValue, gate_shard, phase_of}, Ghost.Ghost, Invariant.InvWith, Opening.IsFresh, Setting.{Setting, actor_count, cell_count, ledger_cell}, Sights.{IsIdle, SeesPage}, State.IsWorldOf, Steps.{Inv, history_in}, Values.{ActorValue, actor_of}, View.view, World.World, declared.command.Work.Work, declared.state.State.State}
+use Rattle.core_pages.specs.volap_cell.specs.declared.command.Work.TheVariants as work_is
+use Rattle.core_pages.specs.shard_store.specs.declared.gate.Phase.TheVariants.{Gone}
 use Rattle.seeded_run.specs.{Drives.MayShow, Pages.{CanShow, MayTell, Shows, ShowsTree, place_at, place_of, seen}}
 
 -- Right behind a call that begins, the shards stand that stood before it.

@@ -4,16 +4,16 @@ use Rattle.std.specs.Prelude.{map, option_and_then, option_map}
 use Rattle.core_due.specs.{Parts.{due_kind, due_may_fail, ending}, Ready.MayMakeRow, Rows.{descent_of, down_by, down_for, row_of}, declared.parts.PartDue.PartDue}
 use Rattle.core_due.specs.declared.parts.PartDue.TheVariants.{Descends, Enters, Part, Tree}
 use Rattle.core_due.proofs.DueCases.{of-some}
-use Rattle.core_steps.specs.{Parts.{part_kind, part_may_fail}, Rows.row_kind, Steps.{IsFurther, IsSame}, Trees.{tree_kind, tree_may_fail}, declared.parts.PartStep.PartStep, declared.rows.RowStep.RowStep, declared.trees.TreeStep.TreeStep}
-use Rattle.core_steps.specs.declared.parts.PartStep.TheVariants as part
-use Rattle.core_steps.specs.declared.trees.TreeStep.TheVariants as tree
+use Rattle.core_due.specs.core_steps.specs.{Parts.{part_kind, part_may_fail}, Rows.row_kind, Steps.{IsFurther, IsSame}, Trees.{tree_kind, tree_may_fail}, declared.parts.PartStep.PartStep, declared.rows.RowStep.RowStep, declared.trees.TreeStep.TreeStep}
+use Rattle.core_due.specs.core_steps.specs.declared.parts.PartStep.TheVariants as part
+use Rattle.core_due.specs.core_steps.specs.declared.trees.TreeStep.TheVariants as tree
 use Rattle.dc_node.specs.{Block.entries_in, declared.entry.Entry.Entry}
 use Rattle.dim_hierarchy.specs.Dimension.{Dimension}
-use Rattle.link_descent.specs.Pick.{pick_place}
+use Rattle.core_pages.specs.link_descent.specs.Pick.{pick_place}
 use Rattle.list_words.proofs.Elements.{Some-same}
-use Rattle.volap_cell.proofs.Cells.States.{is-some, of-it, stands}
-use Rattle.volap_cell.specs.{Cells.block_in, Setting.Setting, Values.{ActorValue, ErrandValue, actor_of}, World.World, declared.state.State.State}
-use Rattle.volap_cell.specs.declared.kind.Kind.TheVariants.{Down, FinishPart}
+use Rattle.core_pages.specs.volap_cell.proofs.Cells.States.{is-some, of-it, stands}
+use Rattle.core_pages.specs.volap_cell.specs.{Cells.block_in, Setting.Setting, Values.{ActorValue, ErrandValue, actor_of}, World.World, declared.state.State.State}
+use Rattle.core_pages.specs.volap_cell.specs.declared.kind.Kind.TheVariants.{Down, FinishPart}
 use Rattle.core_told.specs.Told.{is_of_part}
 use Rattle.seeded_run.specs.{Arms.GoesOnAtPart, Drives.{HasActor, IsFound}, Instead.in_place_of}
 use Rattle.seeded_run.proofs.States.{further-then}

@@ -5,18 +5,18 @@ use Rattle.std.specs.{List.list_any, Prelude.{IsSome, position}}
 use Rattle.core_due.specs.{Awaited.IsAwaited, Due.{any_below, hand_kind}, Laws.IsDueAt, Look.{cell_at, cells_only, setting_by, world_by}, Parts.{due_kind, ending, part_due}, Ready.{CanDescend, HasSpares, IsDescending, IsEntering, IsFree, IsPartPrepared, IsPartReady, IsStateOf, IsStepAsked, MayMakePart, head_of}, Rows.{descent_of, entrance_of}, Wants.meets, declared.parts.PartDue.PartDue}
 use Rattle.core_due.specs.declared.parts.PartDue.TheVariants.{Descends, Enters, Part, Tree}
 use Rattle.core_due.proofs.{AtParts.part-there, BooksHeld.take-prepared, InStates.{cells-seen, part-may, still-state, tree-may}, PartsReady.{can-descend, down-prepared, down-ready, ends-ready, in-prepared, in-ready, is-free, is-prepared, is-ready}, StepsPrepared.spares-prepared}
-use Rattle.core_shard.proofs.FinishReady.{first-place}
-use Rattle.core_steps.specs.{Steps.IsSound, declared.rows.RowStep.RowStep}
-use Rattle.core_steps.specs.declared.parts.PartStep.TheVariants.{TakePart}
-use Rattle.core_steps.specs.declared.trees.TreeStep.TheVariants.{GiveBack}
+use Rattle.core_due.specs.core_shard.proofs.FinishReady.{first-place}
+use Rattle.core_due.specs.core_steps.specs.{Steps.IsSound, declared.rows.RowStep.RowStep}
+use Rattle.core_due.specs.core_steps.specs.declared.parts.PartStep.TheVariants.{TakePart}
+use Rattle.core_due.specs.core_steps.specs.declared.trees.TreeStep.TheVariants.{GiveBack}
 use Rattle.dim_hierarchy.specs.Dimension.{Dimension}
 use Rattle.list_words.proofs.Elements.{Some-same}
 use Rattle.query_router.specs.Desk.{waits_for}
 use Rattle.row_ledger.specs.declared.settings.Use.{Use}
-use Rattle.volap_cell.proofs.{Cells.Numbers.tag-desk, Cells.States.{is-some, stands}}
-use Rattle.volap_cell.specs.{Cells.{CellValue, desk_in}, Setting.{Setting, actor_count, desk_cell}, ShardKinds.{IsDeskFor, may_take, pin_of}, Values.{ActorValue, ErrandValue, JobValue, actor_of}, World.World, declared.kind.Kind.Kind, declared.role.Role.Role, declared.state.State.State}
-use Rattle.volap_cell.specs.declared.kind.Kind.TheVariants as kind
-use Rattle.volap_cell.specs.declared.role.Role.TheVariants.{Admin, Hand}
+use Rattle.core_pages.specs.volap_cell.proofs.{Cells.Numbers.tag-desk, Cells.States.{is-some, stands}}
+use Rattle.core_pages.specs.volap_cell.specs.{Cells.{CellValue, desk_in}, Setting.{Setting, actor_count, desk_cell}, ShardKinds.{IsDeskFor, may_take, pin_of}, Values.{ActorValue, ErrandValue, JobValue, actor_of}, World.World, declared.kind.Kind.Kind, declared.role.Role.Role, declared.state.State.State}
+use Rattle.core_pages.specs.volap_cell.specs.declared.kind.Kind.TheVariants as kind
+use Rattle.core_pages.specs.volap_cell.specs.declared.role.Role.TheVariants.{Admin, Hand}
 use Rattle.seeded_run.specs.Drives.{EndsPart, HasActor, IsFound, MayEndInstead, MayGoOn, MayTake}
 
 -- a setting of which no more is known than how many servers there are

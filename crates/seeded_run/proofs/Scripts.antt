@@ -3,7 +3,7 @@ use Rattle.std.proofs.{Common.{◌≡◌, ◌∙◌, ℕ, zero, suc, ◌+◌, �
 use Rattle.std.specs.Prelude.{◌==◌, filter, slice_get, if◌then◌else◌}
 use Rattle.script_form.specs.{declared.script.Command.Command, declared.script.Command.TheVariants.Query}
 use Rattle.script_run.specs.Places.{session_of}
-use Rattle.volap_cell.specs.{Ghost.Ghost, Invariant.InvWith, Setting.{Setting, actor_count}, Steps.history_in, View.view, World.World, declared.role.Role.Role, declared.role.Role.TheVariants.{Admin, Hand, Puller, Session}}
+use Rattle.core_pages.specs.volap_cell.specs.{Ghost.Ghost, Invariant.InvWith, Setting.{Setting, actor_count}, Steps.history_in, View.view, World.World, declared.role.Role.Role, declared.role.Role.TheVariants.{Admin, Hand, Puller, Session}}
 use Rattle.script_roles.specs.Roles.{AreScriptRoles}
 use Rattle.seeded_run.specs.{Progress.ScriptLaw, Rests.{PhaseRun, begun_in, rest_of, stream_of}}
 

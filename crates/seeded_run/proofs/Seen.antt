@@ -4,11 +4,11 @@ use Rattle.std.specs.Prelude.{if◌then◌else◌, slice_get}
 use Rattle.dim_hierarchy.specs.Dimension.{Dimension}
 use Rattle.row_ledger.specs.declared.settings.Use.{Use}
 use Rattle.script_form.specs.declared.script.Command.{Command}
-use Rattle.volap_cell.specs.{Setting.Setting, Values.{ActorValue, ErrandValue}, World.World, declared.actor.Actor.Actor, declared.cell.Cell.Cell, declared.command.Command.Command as Open, declared.kind.Kind.Kind, declared.kind.Kind.TheVariants.Refill, declared.role.Role.Role}
+use Rattle.core_pages.specs.volap_cell.specs.{Setting.Setting, Values.{ActorValue, ErrandValue}, World.World, declared.actor.Actor.Actor, declared.cell.Cell.Cell, declared.command.Command.Command as Open, declared.kind.Kind.Kind, declared.kind.Kind.TheVariants.Refill, declared.role.Role.Role}
 use Rattle.core_due.proofs.{InStates.cells-seen, Released.reuse-told}
 use Rattle.core_due.specs.{Due.is_empty, Look.{cells_only, setting_by, world_by}, Reuses.reuse_due, Wants.wanted_of}
 use Rattle.core_due.specs.declared.parts.PartDue.TheVariants.{Tree}
-use Rattle.core_steps.specs.declared.trees.TreeStep.TheVariants.{GiveBack}
+use Rattle.core_due.specs.core_steps.specs.declared.trees.TreeStep.TheVariants.{GiveBack}
 use Rattle.seeded_run.specs.{Core.IsCore, Due.{actor_kind, command_kind, free_kind, kind_or}, DueSteps.{actor_step, command_step, free_step, step_or}, Look.ahead, declared.turn.DueStep.TheVariants.AtPart}
 
 -- a setting of which no more is known than the dimensions, and how many servers and workers there are

@@ -3,13 +3,13 @@
 use Rattle.std.proofs.Common.{◌≡◌, ◌∙◌, ◌<◌, ℕ, Bool, true, false, List, Option, Some, None, length, get_or, Ok, Err, Result, refl, sym, ap, subst}
 use Rattle.std.specs.Prelude.{IsOk, OnOk, is_ok}
 use Rattle.core_due.specs.Ready.{IsStateOf}
-use Rattle.core_steps.specs.{Places.numbers, Steps.{IsFurther, IsSame, IsSound, MayMake}}
-use Rattle.core_steps.proofs.Held.{lent-is}
+use Rattle.core_due.specs.core_steps.specs.{Places.numbers, Steps.{IsFurther, IsSame, IsSound, MayMake}}
+use Rattle.core_due.specs.core_steps.proofs.Held.{lent-is}
 use Rattle.dim_hierarchy.specs.Dimension.{Dimension}
 use Rattle.list_words.specs.Counts.{Each}
 use Rattle.row_ledger.specs.declared.settings.Use.{Use}
-use Rattle.volap_cell.proofs.Cells.States.{of-it, stands, within}
-use Rattle.volap_cell.specs.{Cells.CellValue, Setting.Setting, State.IsWorldOf, Values.{ActorValue, actor_of}, World.World, declared.actor.Actor.Actor, declared.cell.Cell.Cell, declared.kind.Kind.Kind, declared.state.State.State}
+use Rattle.core_pages.specs.volap_cell.proofs.Cells.States.{of-it, stands, within}
+use Rattle.core_pages.specs.volap_cell.specs.{Cells.CellValue, Setting.Setting, State.IsWorldOf, Values.{ActorValue, actor_of}, World.World, declared.actor.Actor.Actor, declared.cell.Cell.Cell, declared.kind.Kind.Kind, declared.state.State.State}
 use Rattle.seeded_run.specs.{Core.{HasCore, IsCore}, Drives.HasActor}
 
 pub state-of : (h : List Dimension) (with : Use) (state : State) (s : Setting) (w : World) → IsCore h with state.cells.items state.actors.items s w → IsStateOf h with state s w

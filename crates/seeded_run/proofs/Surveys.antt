@@ -2,7 +2,7 @@
 use Rattle.std.proofs.{Common.{◌≡◌, ◌∙◌, ℕ, zero, suc, ◌+◌, ◌<◌, inl, inr, Bool, true, false, not, List, [], ◌∷◌, length, get_or, set, replicate, take, drop, ◌≤◌, Option, Some, None, refl, sym, ap, subst, arith}, lemmas.Bool.{eq-eqb, ne_eqb}, lemmas.List.{get_or-set_other, get_or-set_same, get_or-take, length-set, length-take, take-append-drop}, lemmas.List.Folds.{list_any-append, list_any_more, list_any_none}, lemmas.List.Quantifiers.position-Some, lemmas.List.Sums.fails_before_first, lemmas.Grind.common_steps}
 use Rattle.std.specs.{List.{list_any, position, position_or_len}, Option.option_map_or, Prelude.{◌==◌, ◌&&◌, ◌||◌}}
 use Rattle.query_router.specs.{Desk.{is_waiting, waits_for}, declared.part.Part.Part}
-use Rattle.volap_cell.specs.declared.actor.Actor.{Actor}
+use Rattle.core_pages.specs.volap_cell.specs.declared.actor.Actor.{Actor}
 use Rattle.core_due.specs.Due.{any_below}
 use Rattle.seeded_run.specs.{Survey.{AllAwaited, MarksCarried, mark_count, mark_of, worker_count}, Takes.{carries_at, free_by}}
 use Rattle.seeded_run.proofs.{Cursors.Firstly.below-or-at, Due.DueSteps.no-both, Holding.LeftAlone.{apart, or-true, same-or-not}, Holding.Others.{any-at, both-fail}, Phases.Movers.all-from}

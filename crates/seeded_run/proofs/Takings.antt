@@ -2,17 +2,17 @@
 use Rattle.std.proofs.{Common.{◌≡◌, ◌∙◌, ℕ, ◌<◌, Bool, true, false, List, [], length, get_or, Option, Some, None, IfSome, refl, sym, ap, subst, not, arith, ◌+◌}, lemmas.Bool.eqb-true}
 use Rattle.std.specs.{Option.option_map_or, Prelude.{◌==◌, ◌&&◌, ◌||◌, if◌then◌else◌, is_none, option_and_then}}
 use mathlib.Core.Path.{fun_ext}
-use Rattle.core_tree.proofs.Rows.Carriers.{Carries, carries}
+use Rattle.core_due.specs.core_tree.proofs.Rows.Carriers.{Carries, carries}
 use Rattle.dc_node.specs.Block.{IsBodyOf}
 use Rattle.dim_hierarchy.specs.{Dimension.Dimension, Rows.IsRowOf}
 use Rattle.row_ledger.specs.declared.settings.Use.{Use}
 use Rattle.script_form.specs.declared.script.Command.{Command}
 use Rattle.script_form.specs.declared.script.Command.TheVariants as script
-use Rattle.tree_shape.specs.Laws.{BlockLaw}
-use Rattle.volap_cell.proofs.{Actors.row-at, Cells.States.same-actor}
-use Rattle.volap_cell.specs.{Cells.{CellValue, block_in, desk_in}, Errands.{place_of, row_way, way_of}, Growing.table_of, Setting.{Setting, actor_count, desk_cell}, State.Has, Stocking.cells_at, TreeKinds.HasRow, Values.{ActorValue, ErrandValue, OfRow, actor_of}, View.view, World.World, declared.actor.Actor.Actor, declared.cell.Cell.Cell, declared.errand.RowErrand.RowErrand, declared.kind.Kind.Kind}
-use Rattle.volap_cell.specs.declared.errand.Way.TheVariants as way
-use Rattle.volap_cell.specs.declared.role.Role.TheVariants as role
+use Rattle.core_pages.specs.tree_shape.specs.Laws.{BlockLaw}
+use Rattle.core_pages.specs.volap_cell.proofs.{Actors.row-at, Cells.States.same-actor}
+use Rattle.core_pages.specs.volap_cell.specs.{Cells.{CellValue, block_in, desk_in}, Errands.{place_of, row_way, way_of}, Growing.table_of, Setting.{Setting, actor_count, desk_cell}, State.Has, Stocking.cells_at, TreeKinds.HasRow, Values.{ActorValue, ErrandValue, OfRow, actor_of}, View.view, World.World, declared.actor.Actor.Actor, declared.cell.Cell.Cell, declared.errand.RowErrand.RowErrand, declared.kind.Kind.Kind}
+use Rattle.core_pages.specs.volap_cell.specs.declared.errand.Way.TheVariants as way
+use Rattle.core_pages.specs.volap_cell.specs.declared.role.Role.TheVariants as role
 use Rattle.core_due.proofs.InStates.{cells-seen}
 use Rattle.core_due.specs.{Due.{all_below, desk_of, is_empty_desk}, Look.{cell_at, setting_by, world_by}, Wants.{is_block_free, is_carried_at, is_drained, meets, wanted_of}}
 use Rattle.seeded_run.proofs.{Due.DueSteps.no-both, Holding.Others.all-same, Looks.{due-seen, step-seen}, Phases.Progress.session-within, Scripts.session-is, Seen.{core-seen, wanted-told, world-seen}}

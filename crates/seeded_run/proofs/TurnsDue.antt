@@ -2,17 +2,17 @@
 -- invariant.
 use Rattle.std.proofs.Common.{◌≡◌, ℕ, Bool, true, false, not, is_none, ◌&&◌, ◌+◌, ◌==◌, List, length, Option, Some, None, option_map, refl, sym, ap}
 use Rattle.std.specs.{List.list_any, Option.option_map_or, Prelude.if◌then◌else◌}
-use Rattle.core_steps.specs.declared.books.BookStep.{BookStep}
-use Rattle.core_steps.specs.declared.books.BookStep.TheVariants as book
-use Rattle.core_steps.specs.declared.{reuses.ReuseStep.ReuseStep, trees.TreeStep.TheVariants.GiveBack}
+use Rattle.core_due.specs.core_steps.specs.declared.books.BookStep.{BookStep}
+use Rattle.core_due.specs.core_steps.specs.declared.books.BookStep.TheVariants as book
+use Rattle.core_due.specs.core_steps.specs.declared.{reuses.ReuseStep.ReuseStep, trees.TreeStep.TheVariants.GiveBack}
 use Rattle.query_router.specs.{Desk.{is_waiting, verdict_of}, declared.part.Part.Part, declared.part.Verdict.Verdict}
 use Rattle.query_router.specs.declared.part.Verdict.TheVariants as verdict
 use Rattle.row_ledger.specs.{declared.class.Subject.Subject, declared.event.Event.Event}
 use Rattle.script_form.specs.declared.script.Command.{Command}
-use Rattle.volap_cell.specs.{Cells.{desk_in, ledger_in}, Setting.{Setting, desk_cell, image_cell, ledger_cell}, Values.ActorValue, World.World, declared.command.Command.Command as OpenCommand, declared.command.Work.Work, declared.kind.Kind.Kind, declared.role.Role.Role}
-use Rattle.volap_cell.specs.declared.command.Work.TheVariants as work_is
-use Rattle.volap_cell.specs.declared.kind.Kind.TheVariants as kind
-use Rattle.volap_cell.specs.declared.role.Role.TheVariants as role
+use Rattle.core_pages.specs.volap_cell.specs.{Cells.{desk_in, ledger_in}, Setting.{Setting, desk_cell, image_cell, ledger_cell}, Values.ActorValue, World.World, declared.command.Command.Command as OpenCommand, declared.command.Work.Work, declared.kind.Kind.Kind, declared.role.Role.Role}
+use Rattle.core_pages.specs.volap_cell.specs.declared.command.Work.TheVariants as work_is
+use Rattle.core_pages.specs.volap_cell.specs.declared.kind.Kind.TheVariants as kind
+use Rattle.core_pages.specs.volap_cell.specs.declared.role.Role.TheVariants as role
 use Rattle.core_due.specs.{Due.{desk_of, is_empty, is_empty_desk, kind_at_empty, kind_by_verdict, parts_kind, there_kind, work_kind}, Reuses.reuse_due, Works.{insert_due, page_due, query_due, route_due, verdict_due, work_due}, declared.parts.PartDue.TheVariants.Tree, declared.works.WorkDue.WorkDue}
 use Rattle.core_due.specs.declared.works.WorkDue.TheVariants.{Books, Shows, Takes}
 use Rattle.seeded_run.specs.{Due.{command_kind, free_kind, kind_or, purse_kind}, DueSteps.{command_step, free_step, purse_step, step_or, step_where}, declared.turn.DueStep.DueStep}

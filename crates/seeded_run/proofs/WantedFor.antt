@@ -4,10 +4,10 @@ use Rattle.std.specs.{Option.option_map_or}
 use Rattle.core_due.specs.{Due.{errand_kind, is_empty, led_to, may_enter}, Parts.{due_kind, ending, gate_due, part_due, row_due, task_due, visit_due}, Wants.{child_wanted, last_noted, root_at, wanted_down, wanted_of, wanted_visit}, declared.parts.PartDue.PartDue}
 use Rattle.core_due.specs.declared.parts.PartDue.TheVariants.{Descends, Enters, Part, Tree}
 use Rattle.core_due.proofs.{DueCases.{either, led, of-some}, PartKinds.part-kind}
-use Rattle.core_steps.specs.declared.trees.TreeStep.TheVariants as tree
+use Rattle.core_due.specs.core_steps.specs.declared.trees.TreeStep.TheVariants as tree
 use Rattle.dc_node.specs.Block.{is_leaf}
-use Rattle.volap_cell.specs.{Cells.block_in, Setting.{Setting, desk_cell, map_cell}, Values.{ActorValue, ErrandValue, OfRow, Read, TaskValue, Unread}, World.World, declared.errand.RowErrand.RowErrand, declared.errand.Way.Way, declared.kind.Kind.Kind}
-use Rattle.volap_cell.specs.declared.errand.Way.TheVariants as way
+use Rattle.core_pages.specs.volap_cell.specs.{Cells.block_in, Setting.{Setting, desk_cell, map_cell}, Values.{ActorValue, ErrandValue, OfRow, Read, TaskValue, Unread}, World.World, declared.errand.RowErrand.RowErrand, declared.errand.Way.Way, declared.kind.Kind.Kind}
+use Rattle.core_pages.specs.volap_cell.specs.declared.errand.Way.TheVariants as way
 use Rattle.seeded_run.specs.{DueSteps.step_where, Takes.{child_for, wanted_for}, declared.turn.DueStep.DueStep}
 use Rattle.seeded_run.specs.declared.turn.DueStep.TheVariants.{AtPart}
 

@@ -3,15 +3,15 @@
 use Rattle.std.proofs.Common.{ℕ, ◌≡◌, ◌<◌, ◌∙◌, Bool, List, length, Some, None, get_or, sym, ap, subst}
 use Rattle.core_due.specs.{Ready.IsStateOf, WorkLaws.IsAtWork, Works.work_due, WorksReady.{AreBytes, IsInsteadPrepared, IsWorkReady}, declared.works.WorkDue.WorkDue}
 use Rattle.core_due.proofs.{Holding.there, InStates.still-state, WorksAsked.{work-asked, work-prepared}, WorksInstead.instead-prepared, WorksReady.{instead-ready, work-ready}}
-use Rattle.core_steps.specs.Steps.{IsSound}
+use Rattle.core_due.specs.core_steps.specs.Steps.{IsSound}
 use Rattle.dim_hierarchy.specs.Dimension.{Dimension}
 use Rattle.row_ledger.specs.declared.settings.Use.{Use}
 use Rattle.shard_plan.proofs.Levels.{parts-fit}
-use Rattle.tree_shape.proofs.Reading.Collects.{collect-ends, readable}
-use Rattle.tree_shape.specs.Laws.{CollectEndLaw, ReadableLaw}
+use Rattle.core_pages.specs.tree_shape.proofs.Reading.Collects.{collect-ends, readable}
+use Rattle.core_pages.specs.tree_shape.specs.Laws.{CollectEndLaw, ReadableLaw}
 use Rattle.seeded_run.specs.Drives.{GivesWay, HasActor, MayGiveWay}
-use Rattle.volap_cell.proofs.Cells.States.{is-some, stands}
-use Rattle.volap_cell.specs.{ImageKinds.doing, Setting.Setting, Steps.history_in, Values.{ActorValue, actor_of}, World.World, declared.command.Work.Work, declared.state.State.State}
+use Rattle.core_pages.specs.volap_cell.proofs.Cells.States.{is-some, stands}
+use Rattle.core_pages.specs.volap_cell.specs.{ImageKinds.doing, Setting.Setting, Steps.history_in, Values.{ActorValue, actor_of}, World.World, declared.command.Work.Work, declared.state.State.State}
 
 readable-law : ReadableLaw
 readable-law table cells g items item read collected tree c = readable table cells g items item read collected tree c

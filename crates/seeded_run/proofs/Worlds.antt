@@ -3,8 +3,8 @@ use Rattle.std.proofs.{Common.{◌≡◌, inl, inr, ℕ, zero, suc, ◌<◌, ◌
 use Rattle.std.specs.Option.{option_map_or}
 use Rattle.dim_hierarchy.specs.Dimension.{Dimension}
 use Rattle.row_ledger.specs.declared.settings.Use.{Use}
-use Rattle.volap_cell.specs.{Cells.cell_of, Filling.{actor_or, cell_or, fresh, world_of}, Opening.IsFresh, Setting.{Setting, actor_count}, Values.{ActorValue, actor_of}, World.World, declared.actor.Actor.Actor, declared.cell.Cell.Cell, declared.role.Role.TheVariants.Hand}
-use Rattle.volap_cell.proofs.Cells.States.{stands}
+use Rattle.core_pages.specs.volap_cell.specs.{Cells.cell_of, Filling.{actor_or, cell_or, fresh, world_of}, Opening.IsFresh, Setting.{Setting, actor_count}, Values.{ActorValue, actor_of}, World.World, declared.actor.Actor.Actor, declared.cell.Cell.Cell, declared.role.Role.TheVariants.Hand}
+use Rattle.core_pages.specs.volap_cell.proofs.Cells.States.{stands}
 use Rattle.seeded_run.specs.{Core.IsCore, Worlds.{roles_in, setting_in, world_in}}
 
 -- lists of the same length with the same items are the same

@@ -1,8 +1,8 @@
 -- What is told of a step that an actor has made because it was due.
 use Rattle.std.specs.Prelude.{ℕ, ◌≡◌, ◌≢◌, ◌⊎◌, true, List}
-use Rattle.core_steps.specs.Steps.{IsFurther}
+use Rattle.core_due.specs.core_steps.specs.Steps.{IsFurther}
 use Rattle.dim_hierarchy.specs.Dimension.{Dimension}
-use Rattle.volap_cell.specs.{State.IsWorldOf, Steps.history_in, World.World, declared.kind.Kind.Kind, declared.kind.Kind.TheVariants.Note, declared.state.State.State}
+use Rattle.core_pages.specs.volap_cell.specs.{State.IsWorldOf, Steps.history_in, World.World, declared.kind.Kind.Kind, declared.kind.Kind.TheVariants.Note, declared.state.State.State}
 use Rattle.core_told.specs.Told.{is_of_part}
 use Rattle.seeded_run.specs.Instead.{StandsFor}
 

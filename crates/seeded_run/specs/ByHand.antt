@@ -1,7 +1,7 @@
 -- Moves of a phase that are made by hand.
 use Rattle.std.specs.Prelude.{ℕ, ◌≡◌, ◌≢◌, ◌⊎◌, ◌≤◌, ◌<◌, Bool, true, false, Option, Some, None, List, [], ◌∷◌, length, slice_get, take}
-use Rattle.volap_cell.specs.{Setting.{Setting, actor_count}, Values.ErrandValue, World.World, declared.kind.Kind.Kind}
-use Rattle.volap_cell.specs.declared.kind.Kind.TheVariants as kind
+use Rattle.core_pages.specs.volap_cell.specs.{Setting.{Setting, actor_count}, Values.ErrandValue, World.World, declared.kind.Kind.Kind}
+use Rattle.core_pages.specs.volap_cell.specs.declared.kind.Kind.TheVariants as kind
 use Rattle.seeded_run.specs.{Can.can_step, Commands.may_begin, Due.due, Instead.in_place_of, Machine.{IsSamePhase, about_in, phase_of, world_of}, Phase.IsKeptTurn, Rests.PhaseRun, Steps.is_for_part, declared.machine.Running.Running}
 
 -- One move, of an actor and the kind of step that it is to make, or none.

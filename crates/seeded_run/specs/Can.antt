@@ -2,8 +2,8 @@
 use Rattle.std.specs.{Option.option_map_or, Prelude.{ℕ, ◌==◌, ◌&&◌, Bool, true, false, if◌then◌else◌, List, Option, Some, None}}
 use Rattle.core_due.specs.Wants.{meets}
 use Rattle.seeded_turns.specs.Drawn.{able}
-use Rattle.volap_cell.specs.{Cells.ledger_in, Setting.{Setting, actor_count, ledger_cell}, World.World, declared.kind.Kind.Kind}
-use Rattle.volap_cell.specs.declared.kind.Kind.TheVariants as kind
+use Rattle.core_pages.specs.volap_cell.specs.{Cells.ledger_in, Setting.{Setting, actor_count, ledger_cell}, World.World, declared.kind.Kind.Kind}
+use Rattle.core_pages.specs.volap_cell.specs.declared.kind.Kind.TheVariants as kind
 use Rattle.seeded_run.specs.{Due.due, Rests.{PhaseRun, first_open}}
 
 -- the actor can make the step that is due for it

@@ -6,8 +6,8 @@ use Rattle.row_ledger.specs.{Classes.class_of, declared.class.Class.Class, decla
 use Rattle.script_form.specs.declared.script.Command.{Command}
 use Rattle.script_form.specs.declared.script.Command.TheVariants as script
 use Rattle.script_run.specs.{Places.session_of, Runs.{Begins, can_be_refused}}
-use Rattle.volap_cell.specs.{Setting.Setting, State.{Has, IsWorldOf}, Steps.history_in, Values.actor_of, World.World, declared.actor.Actor.Actor, declared.cell.Cell.Cell, declared.kind.Kind.Kind}
-use Rattle.volap_cell.specs.declared.kind.Kind.TheVariants as kind
+use Rattle.core_pages.specs.volap_cell.specs.{Setting.Setting, State.{Has, IsWorldOf}, Steps.history_in, Values.actor_of, World.World, declared.actor.Actor.Actor, declared.cell.Cell.Cell, declared.kind.Kind.Kind}
+use Rattle.core_pages.specs.volap_cell.specs.declared.kind.Kind.TheVariants as kind
 use Rattle.core_due.specs.Wants.{meets}
 use Rattle.seeded_run.specs.{Core.IsCore, Due.{are_known, due_by}, Look.HasNames}
 

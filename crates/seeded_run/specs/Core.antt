@@ -2,7 +2,7 @@
 use Rattle.std.specs.Prelude.{ℕ, ◌≡◌, List, length, Option}
 use Rattle.dim_hierarchy.specs.Dimension.{Dimension}
 use Rattle.row_ledger.specs.declared.settings.Use.{Use}
-use Rattle.volap_cell.specs.{Setting.{Setting, actor_count, cell_count}, State.{IsWorldOf, Stepped}, Steps.Inv, World.World, declared.actor.Actor.Actor, declared.cell.Cell.Cell, declared.kind.Kind.Kind}
+use Rattle.core_pages.specs.volap_cell.specs.{Setting.{Setting, actor_count, cell_count}, State.{IsWorldOf, Stepped}, Steps.Inv, World.World, declared.actor.Actor.Actor, declared.cell.Cell.Cell, declared.kind.Kind.Kind}
 use Rattle.script_roles.specs.Roles.{AreScriptRoles}
 use Rattle.seeded_run.specs.Instead.{StandsFor}
 

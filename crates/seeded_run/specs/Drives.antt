@@ -3,17 +3,17 @@ use Rattle.std.specs.Prelude.{ℕ, ◌≡◌, ⊤, [], Bool, true, false, List, 
 use Rattle.core_due.specs.{Awaited.IsAwaited, Look.{setting_by, world_by}, Parts.{due_may_fail, ending}, Ready.{CanDescend, MayMakePart, MayMakeRow, MayMakeTree}, Rows.{descent_of, entrance_of}, WorksReady.{IsInsteadReady, IsStopFor, MayMakeBook, MayMakeJob, MayMakeNote}, declared.parts.PartDue.PartDue, declared.works.WorkDue.WorkDue}
 use Rattle.core_due.specs.declared.parts.PartDue.TheVariants.{Descends, Enters, Part, Tree}
 use Rattle.core_due.specs.declared.works.WorkDue.TheVariants.{Shows}
-use Rattle.core_steps.specs.{Steps.{IsSame, IsSound}, declared.books.BookStep.BookStep, declared.jobs.JobStep.JobStep, declared.rows.RowStep.RowStep}
-use Rattle.core_steps.specs.declared.books.BookStep.TheVariants as book
-use Rattle.core_steps.specs.declared.jobs.JobStep.TheVariants as job
-use Rattle.core_steps.specs.declared.notes.NoteStep.TheVariants as note
-use Rattle.core_steps.specs.declared.parts.PartStep.TheVariants.{TakePart}
+use Rattle.core_due.specs.core_steps.specs.{Steps.{IsSame, IsSound}, declared.books.BookStep.BookStep, declared.jobs.JobStep.JobStep, declared.rows.RowStep.RowStep}
+use Rattle.core_due.specs.core_steps.specs.declared.books.BookStep.TheVariants as book
+use Rattle.core_due.specs.core_steps.specs.declared.jobs.JobStep.TheVariants as job
+use Rattle.core_due.specs.core_steps.specs.declared.notes.NoteStep.TheVariants as note
+use Rattle.core_due.specs.core_steps.specs.declared.parts.PartStep.TheVariants.{TakePart}
 use Rattle.dim_hierarchy.specs.Dimension.{Dimension}
 use Rattle.row_ledger.specs.declared.settings.Use.{Use}
 use Rattle.row_ledger.specs.declared.settings.How.TheVariants as how
-use Rattle.volap_cell.specs.{ImageKinds.doing, Setting.desk_cell, ShardKinds.pin_of, State.Has, Values.{ActorValue, ErrandValue, actor_of}, declared.command.Command.Command, declared.command.Work.Work, declared.kind.Kind.Kind, declared.state.State.State}
-use Rattle.volap_cell.specs.declared.command.Work.TheVariants as work_is
-use Rattle.volap_cell.specs.declared.kind.Kind.TheVariants as kind
+use Rattle.core_pages.specs.volap_cell.specs.{ImageKinds.doing, Setting.desk_cell, ShardKinds.pin_of, State.Has, Values.{ActorValue, ErrandValue, actor_of}, declared.command.Command.Command, declared.command.Work.Work, declared.kind.Kind.Kind, declared.state.State.State}
+use Rattle.core_pages.specs.volap_cell.specs.declared.command.Work.TheVariants as work_is
+use Rattle.core_pages.specs.volap_cell.specs.declared.kind.Kind.TheVariants as kind
 use Rattle.seeded_run.specs.{Pages.CanShow, declared.works.Instead.Instead}
 use Rattle.seeded_run.specs.declared.works.Instead.TheVariants.{Ends, Fails}
 

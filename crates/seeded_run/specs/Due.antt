@@ -3,15 +3,15 @@
 -- uses cells again, if it is the administrator and can, and at last begins the next one. Where it waits for others none is due, but where it waits for a block, or for a gate's inserts: of that see `can`.
 use Rattle.std.specs.Prelude.{ℕ, ◌==◌, ◌&&◌, ◌||◌, Bool, true, not, Option, Some, None, is_none, if◌then◌else◌, List, [], ◌∷◌}
 use Rattle.core_due.specs.{Due.{all_below, desk_of, does_nothing, errand_kind, hand_kind, is_empty, kind_at_empty, work_kind}, Reuses.reuse_due}
-use Rattle.core_steps.specs.declared.reuses.ReuseStep.{ReuseStep}
+use Rattle.core_due.specs.core_steps.specs.declared.reuses.ReuseStep.{ReuseStep}
 use Rattle.dim_hierarchy.specs.Dimension.{Dimension}
 use Rattle.query_router.specs.Desk.{DeskValue}
 use Rattle.script_form.specs.declared.script.Command.{Command}
 use Rattle.script_form.specs.declared.script.Command.TheVariants as script
 use Rattle.script_run.specs.{Phases.closes, Runs.first_unknown}
-use Rattle.volap_cell.specs.{Cells.ledger_in, Setting.{Setting, actor_count, ledger_cell}, Values.{ActorValue, ErrandValue}, World.World, declared.command.Command.Command as OpenCommand, declared.kind.Kind.Kind, declared.role.Role.Role}
-use Rattle.volap_cell.specs.declared.kind.Kind.TheVariants as kind
-use Rattle.volap_cell.specs.declared.role.Role.TheVariants as role
+use Rattle.core_pages.specs.volap_cell.specs.{Cells.ledger_in, Setting.{Setting, actor_count, ledger_cell}, Values.{ActorValue, ErrandValue}, World.World, declared.command.Command.Command as OpenCommand, declared.kind.Kind.Kind, declared.role.Role.Role}
+use Rattle.core_pages.specs.volap_cell.specs.declared.kind.Kind.TheVariants as kind
+use Rattle.core_pages.specs.volap_cell.specs.declared.role.Role.TheVariants as role
 use Rattle.seeded_run.specs.Rests.{PhaseRun, rest_of}
 
 -- Commands that begin.

@@ -2,10 +2,10 @@
 use Rattle.std.specs.Prelude.{ℕ, ◌≡◌, ◌&&◌, ⊤, Bool, true, not, is_none, if◌then◌else◌, List, Option, Some, None, option_map}
 use Rattle.core_due.specs.{Due.{hand_kind, is_empty}, Parts.{due_kind, part_due}, Reuses.reuse_due, Works.{work_due, work_due_kind}, WorksReady.AreBytes}
 use Rattle.core_due.specs.declared.parts.PartDue.TheVariants.{Tree}
-use Rattle.core_steps.specs.declared.{reuses.ReuseStep.ReuseStep, trees.TreeStep.TheVariants.GiveBack}
+use Rattle.core_due.specs.core_steps.specs.declared.{reuses.ReuseStep.ReuseStep, trees.TreeStep.TheVariants.GiveBack}
 use Rattle.script_form.specs.declared.script.Command.{Command}
-use Rattle.volap_cell.specs.{Cells.ledger_in, Setting.{Setting, ledger_cell}, Values.{ActorValue, ErrandValue}, World.World, declared.command.Command.Command as OpenCommand, declared.kind.Kind.Kind, declared.kind.Kind.TheVariants.{Reuse, TakePart}, declared.role.Role.Role}
-use Rattle.volap_cell.specs.declared.role.Role.TheVariants as role
+use Rattle.core_pages.specs.volap_cell.specs.{Cells.ledger_in, Setting.{Setting, ledger_cell}, Values.{ActorValue, ErrandValue}, World.World, declared.command.Command.Command as OpenCommand, declared.kind.Kind.Kind, declared.kind.Kind.TheVariants.{Reuse, TakePart}, declared.role.Role.Role}
+use Rattle.core_pages.specs.volap_cell.specs.declared.role.Role.TheVariants as role
 use Rattle.seeded_run.specs.{Can.{can, can_step}, Commands.may_begin, Due.{free_kind, is_alone}, Rests.{PhaseRun, rest_of}, declared.turn.DueStep.DueStep}
 use Rattle.seeded_run.specs.declared.turn.DueStep.TheVariants.{AtPart, AtWork, Begins, Reuses, Takes}
 

@@ -1,6 +1,6 @@
 -- Which hands have nothing to do.
 use Rattle.std.specs.Prelude.{ℕ, ◌≡◌, ◌<◌, true, List, Option, Some, None, get_or, length}
-use Rattle.volap_cell.specs.{Values.{ActorValue, actor_of}, declared.actor.Actor.Actor, declared.role.Role.TheVariants.Hand}
+use Rattle.core_pages.specs.volap_cell.specs.{Values.{ActorValue, actor_of}, declared.actor.Actor.Actor, declared.role.Role.TheVariants.Hand}
 use Rattle.core_due.specs.Due.{does_nothing}
 use Rattle.seeded_run.specs.declared.hands.FreeHands.{FreeHands}
 

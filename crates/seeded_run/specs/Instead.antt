@@ -1,7 +1,7 @@
 -- What is made where the step that is due finds no memory.
 use Rattle.std.specs.Prelude.{◌≡◌, ◌⊎◌, Option, Some, None}
-use Rattle.volap_cell.specs.declared.kind.Kind.{Kind}
-use Rattle.volap_cell.specs.declared.kind.Kind.TheVariants as kind
+use Rattle.core_pages.specs.volap_cell.specs.declared.kind.Kind.{Kind}
+use Rattle.core_pages.specs.volap_cell.specs.declared.kind.Kind.TheVariants as kind
 
 -- A part ends, a command is noted to have ended, or a job that has frozen its shard is given up. A kind that isn't named takes no memory.
 abbrev pub in_place_of : Kind → Option Kind

@@ -3,8 +3,8 @@ use Rattle.std.specs.Prelude.{ℕ, ◌≡◌, ◌≢◌, ◌+◌, ◌<◌, ◌�
 use Rattle.row_ledger.specs.{Past.session_in, declared.event.Event.Event, declared.settings.Use.Use}
 use Rattle.script_form.specs.declared.script.Command.{Command}
 use Rattle.script_run.specs.{Between.{IsInOrder, IsThrough}, Parts.{IsPartAt, Waits, place_in}, Places.{are_over, begins_of, count_of, places, session_of}, Runs.Begins}
-use Rattle.shard_store.specs.declared.gate.Phase.TheVariants.{Gone}
-use Rattle.volap_cell.specs.{Cells.phase_of, Ghost.Ghost, Invariant.InvWith, Setting.{Setting, actor_count}, Sights.IsIdle, Steps.{Step, history_in}, View.view, World.World, declared.kind.Kind.Kind}
+use Rattle.core_pages.specs.shard_store.specs.declared.gate.Phase.TheVariants.{Gone}
+use Rattle.core_pages.specs.volap_cell.specs.{Cells.phase_of, Ghost.Ghost, Invariant.InvWith, Setting.{Setting, actor_count}, Sights.IsIdle, Steps.{Step, history_in}, View.view, World.World, declared.kind.Kind.Kind}
 use Rattle.core_told.specs.Told.{is_of_part}
 use Rattle.script_roles.specs.Roles.{AreScriptRoles}
 use Rattle.seeded_run.specs.{Can.{able_in, can_step}, Due.due, Instead.{StandsFor, in_place_of}, Progress.{IsOrderedRun, IsPhaseOf, IsScriptRun}, Rests.{PhaseRun, rest_of}, Running.{AreAtOwn, IsRunning, RunsBehind}, Steps.is_for_part}

@@ -3,7 +3,7 @@ use Rattle.std.specs.Prelude.{ℕ, ◌≡◌, ◌≢◌, ◌<◌, ◌≤◌, ◌
 use Rattle.dc_node.specs.{Block.entries_in, declared.entry.Entry.Entry}
 use Rattle.row_ledger.specs.declared.event.Event.{Event}
 use Rattle.script_run.specs.Places.{begins_in, begins_of}
-use Rattle.volap_cell.specs.{Cells.block_in, Ghost.Ghost, Invariant.InvWith, Setting.{Setting, actor_count}, Sights.IsIdle, Values.{ActorValue, ErrandValue, OfRow}, View.view, World.{World, MustKeep}, declared.errand.RowErrand.RowErrand, declared.errand.Way.TheVariants.Carried, declared.kind.Kind.Kind, declared.kind.Kind.TheVariants.{PutInLeaf, Down}, declared.role.Role.TheVariants.Hand}
+use Rattle.core_pages.specs.volap_cell.specs.{Cells.block_in, Ghost.Ghost, Invariant.InvWith, Setting.{Setting, actor_count}, Sights.IsIdle, Values.{ActorValue, ErrandValue, OfRow}, View.view, World.{World, MustKeep}, declared.errand.RowErrand.RowErrand, declared.errand.Way.TheVariants.Carried, declared.kind.Kind.Kind, declared.kind.Kind.TheVariants.{PutInLeaf, Down}, declared.role.Role.TheVariants.Hand}
 use Rattle.script_form.specs.declared.script.Command.{Command}
 use Rattle.core_due.specs.{Due.led_to, Reuses.reuse_due, Wants.{is_block_free, wanted}}
 use Rattle.seeded_run.specs.{Can.can_in_order, Due.{due_by, kind_or}, Rests.{PhaseRun, rest_of, stream_of}}

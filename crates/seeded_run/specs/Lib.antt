@@ -25,3 +25,6 @@ pub mod Steps
 pub mod DueSteps
 pub mod Machine
 pub mod ByHand
+-- What stands below is passed on.
+pub use Rattle.core_told
+pub use Rattle.script_roles

@@ -4,7 +4,7 @@ use Rattle.core_due.specs.Due.{all_below, does_nothing, is_empty}
 use Rattle.dim_hierarchy.specs.Dimension.{Dimension}
 use Rattle.script_form.specs.declared.script.Command.{Command}
 use Rattle.script_form.specs.declared.script.Command.TheVariants as script
-use Rattle.volap_cell.specs.{Setting.{Setting, actor_count}, Sums.sum_below, Values.actor_of, declared.actor.Actor.Actor}
+use Rattle.core_pages.specs.volap_cell.specs.{Setting.{Setting, actor_count}, Sums.sum_below, Values.actor_of, declared.actor.Actor.Actor}
 
 -- What is told of the streams.
 

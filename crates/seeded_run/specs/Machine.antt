@@ -1,10 +1,10 @@
 -- What holds between the turns of a phase, and what a turn is.
 use Rattle.std.specs.Prelude.{ℕ, ◌≡◌, ◌≢◌, ◌+◌, ◌≤◌, ◌<◌, Bool, true, false, nat_lt, count_by, List, [], Option, Some, None, length, get_or, slice_get}
-use Rattle.core_steps.specs.Steps.{IsSame}
+use Rattle.core_due.specs.core_steps.specs.Steps.{IsSame}
 use Rattle.script_form.specs.declared.script.Command.{Command}
 use Rattle.script_run.specs.Places.{session_of}
-use Rattle.tree_shape.specs.Shape.{Shape}
-use Rattle.volap_cell.specs.{Falls.left, Ghost.{Ghost, NotOfStock}, Setting.Setting, State.IsWorldOf, Steps.history_in, World.World, declared.kind.Kind.Kind}
+use Rattle.core_pages.specs.tree_shape.specs.Shape.{Shape}
+use Rattle.core_pages.specs.volap_cell.specs.{Falls.left, Ghost.{Ghost, NotOfStock}, Setting.Setting, State.IsWorldOf, Steps.history_in, World.World, declared.kind.Kind.Kind}
 use Rattle.core_due.specs.Due.{does_nothing}
 use Rattle.seeded_run.specs.{Can.can_step, Core.{HasCore, IsCore}, Due.due, DueSteps.{KnowsBytes, due_step}, Hands.{AreFreeHands, IsFreeHand}, Kept.{AreIdle, IsBetween}, Measure.{CoreHasLeft, limits_of}, Order.is_order, Phase.{ClosesLast, EndsBehindAny, IsKeptTurn, MayAllRun, NobodyCanStep, about, held, most_actors, phase_from, RunsTo, StopsAt, StopsBehindAny}, Ranks.{rank, commands_waiting, with_waiting}, Rests.{PhaseRun, first_open}, Running.{IsRunning, RunsBehind}, Steps.begins_by, Survey.IsSurvey, declared.turn.DueStep.DueStep, declared.machine.Running.Running, declared.survey.Survey.Survey}
 use Rattle.row_ledger.specs.declared.settings.Use.{Use}

@@ -3,7 +3,7 @@ use Rattle.std.specs.Prelude.{ℕ, ◌≡◌, ◌≢◌, ◌+◌, ◌*◌, ◌^�
 use Rattle.dim_hierarchy.specs.Dimension.{Dimension}
 use Rattle.row_ledger.specs.{Past.session_in, declared.event.Event.Event}
 use Rattle.script_run.specs.Places.{begins_of}
-use Rattle.volap_cell.specs.{Falls.{left, per_gate, per_query}, Ghost.Ghost, Invariant.InvWith, Setting.{Setting, actor_count, cell_count}, State.Stepped, Steps.{IsKept, Step, history_in}, View.view, World.World, declared.actor.Actor.Actor, declared.cell.Cell.Cell, declared.kind.Kind.Kind, declared.kind.Kind.TheVariants.Note}
+use Rattle.core_pages.specs.volap_cell.specs.{Falls.{left, per_gate, per_query}, Ghost.Ghost, Invariant.InvWith, Setting.{Setting, actor_count, cell_count}, State.Stepped, Steps.{IsKept, Step, history_in}, View.view, World.World, declared.actor.Actor.Actor, declared.cell.Cell.Cell, declared.kind.Kind.Kind, declared.kind.Kind.TheVariants.Note}
 use Rattle.seeded_run.specs.{Core.{HasCore, IsCore}, Ranks.{Limits, IsWithin, rank, commands_waiting, with_waiting}, Rests.{PhaseRun, rest_of}}
 
 -- Limits.

@@ -2,7 +2,7 @@
 use Rattle.std.specs.Prelude.{ℕ, ◌≡◌, ◌<◌, ◌^◌, [], List, length, Option, Some, None}
 use Rattle.core_due.specs.{Look.{setting_by, world_by}, WorksReady.MayMakeNote}
 use Rattle.core_pages.specs.{Looks.{HasCells, IsValid, StateValue, state_of}, Seen.{AreSeenIn, CanSeeIn, IsAuditedIn, IsOfGate, IsQuietIn, IsSeenIn}}
-use Rattle.core_steps.specs.declared.notes.NoteStep.TheVariants as note
+use Rattle.core_due.specs.core_steps.specs.declared.notes.NoteStep.TheVariants as note
 use Rattle.dim_hierarchy.specs.Dimension.{Dimension}
 use Rattle.mapping_table.specs.declared.place.Where.{Where}
 use Rattle.mapping_table.specs.declared.place.Where.TheVariants as where_is
@@ -10,7 +10,7 @@ use Rattle.row_ledger.specs.{declared.class.Subject.Subject, declared.page.Audit
 use Rattle.row_ledger.specs.declared.class.Subject.TheVariants as subject
 use Rattle.row_ledger.specs.declared.page.Page.TheVariants as page
 use Rattle.server_image.specs.Registry.{host_of}
-use Rattle.volap_cell.specs.{Cells.{registry_in, where_in}, Setting.{Setting, map_cell, registry_cell}, World.World, declared.state.State.State}
+use Rattle.core_pages.specs.volap_cell.specs.{Cells.{registry_in, where_in}, Setting.{Setting, map_cell, registry_cell}, World.World, declared.state.State.State}
 
 -- Where a shard stands.
 

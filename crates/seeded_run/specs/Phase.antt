@@ -5,7 +5,7 @@ use Rattle.row_ledger.specs.declared.settings.Use.{Use}
 use Rattle.script_form.specs.declared.script.Command.{Command}
 use Rattle.script_run.specs.Phases.{closes}
 use Rattle.seeded_turns.specs.{Drawn.{Moment, Reaches, Turn}, declared.schedule.Schedule.Schedule}
-use Rattle.volap_cell.specs.{Setting.Setting, Steps.{Inv, history_in}, World.World, declared.state.State.State}
+use Rattle.core_pages.specs.volap_cell.specs.{Setting.Setting, Steps.{Inv, history_in}, World.World, declared.state.State.State}
 use Rattle.seeded_run.specs.{Can.able_in, Commands.IsAllowed, Core.HasCore, Kept.{IsBetween, IsStopped, IsTurn}, Look.HasNames, Order.is_order, Rests.PhaseRun, Worlds.{setting_in, world_in}}
 
 -- What may run.

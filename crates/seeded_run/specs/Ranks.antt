@@ -2,7 +2,7 @@
 use Rattle.std.specs.Prelude.{ℕ, ◌≡◌, ◌≢◌, ◌+◌, ◌*◌, ◌<◌, ◌≤◌, true, List, [], ◌∷◌, Some, length}
 use Rattle.row_ledger.specs.{Past.{is_beginning, session_in}, declared.event.Event.Event}
 use Rattle.script_run.specs.Places.{begins_of}
-use Rattle.volap_cell.specs.{Falls.{Left, Falls, GoesOn, control_brought}, Setting.{Setting, actor_count}, Sums.sum_below}
+use Rattle.core_pages.specs.volap_cell.specs.{Falls.{Left, Falls, GoesOn, control_brought}, Setting.{Setting, actor_count}, Sums.sum_below}
 use Rattle.seeded_run.specs.Rests.{PhaseRun, rest_of}
 
 -- the lower three of the four numbers are below these

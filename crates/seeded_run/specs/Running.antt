@@ -3,7 +3,7 @@ use Rattle.std.specs.Prelude.{ℕ, ◌≡◌, ◌≢◌, ◌+◌, Bool, true, Li
 use Rattle.script_form.specs.declared.script.Command.{Command}
 use Rattle.script_run.specs.{Between.IsInOrder, Places.{begins_of, count_of, session_of}, Streams.IsInPhase}
 use Rattle.row_ledger.specs.Settled.{pulls_since}
-use Rattle.volap_cell.specs.{Setting.Setting, Steps.history_in, World.World, declared.command.Command.Command as OpenCommand}
+use Rattle.core_pages.specs.volap_cell.specs.{Setting.Setting, Steps.history_in, World.World, declared.command.Command.Command as OpenCommand}
 use Rattle.core_due.specs.Due.{does_nothing}
 use Rattle.core_told.specs.Told.{HasPulled, is_closing_work}
 use Rattle.script_roles.specs.Roles.{AreScriptRoles}

@@ -1,7 +1,7 @@
 -- What the steps that are due go on with: a part or a purse, cells that are used again, or the next command.
 use Rattle.std.specs.Prelude.{ℕ, ◌&&◌, Bool, is_none, is_some, false, List, Option, Some, None, get_or}
-use Rattle.volap_cell.specs.{Values.{ErrandValue, actor_of}, declared.actor.Actor.Actor, declared.kind.Kind.Kind}
-use Rattle.volap_cell.specs.declared.kind.Kind.TheVariants as kind
+use Rattle.core_pages.specs.volap_cell.specs.{Values.{ErrandValue, actor_of}, declared.actor.Actor.Actor, declared.kind.Kind.Kind}
+use Rattle.core_pages.specs.volap_cell.specs.declared.kind.Kind.TheVariants as kind
 use Rattle.core_told.specs.Told.{is_of_part}
 use Rattle.seeded_run.specs.Commands.{may_begin}
 

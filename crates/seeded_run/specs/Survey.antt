@@ -2,7 +2,7 @@
 use Rattle.std.specs.{List.list_any, Prelude.{ℕ, ◌≡◌, ◌%◌, ◌<◌, Bool, true, false, List, [], Option, None, get_or, length}}
 use Rattle.query_router.specs.Desk.{waits_for}
 use Rattle.row_ledger.specs.declared.settings.Use.{Use}
-use Rattle.volap_cell.specs.{Cells.desk_in, Setting.desk_cell, declared.actor.Actor.Actor, declared.cell.Cell.Cell}
+use Rattle.core_pages.specs.volap_cell.specs.{Cells.desk_in, Setting.desk_cell, declared.actor.Actor.Actor, declared.cell.Cell.Cell}
 use Rattle.core_due.specs.{Due.any_below, Look.{cell_at, setting_by}}
 use Rattle.seeded_run.specs.{Takes.carries_at, declared.survey.Survey.Survey}
 

@@ -7,10 +7,10 @@ use Rattle.row_ledger.specs.declared.settings.Use.{Use}
 use Rattle.script_form.specs.declared.script.Command.{Command}
 use Rattle.script_form.specs.declared.script.Command.TheVariants as script
 use Rattle.script_run.specs.Phases.{closes}
-use Rattle.volap_cell.specs.{Cells.{block_in, way_in}, Errands.way_of, Values.{ErrandValue, OfRow, TaskValue, actor_of}, World.World, declared.actor.Actor.Actor, declared.cell.Cell.Cell, declared.errand.RowErrand.RowErrand, declared.errand.Way.TheVariants.Carried, declared.kind.Kind.Kind, declared.role.Role.TheVariants.Session}
+use Rattle.core_pages.specs.volap_cell.specs.{Cells.{block_in, way_in}, Errands.way_of, Values.{ErrandValue, OfRow, TaskValue, actor_of}, World.World, declared.actor.Actor.Actor, declared.cell.Cell.Cell, declared.errand.RowErrand.RowErrand, declared.errand.Way.TheVariants.Carried, declared.kind.Kind.Kind, declared.role.Role.TheVariants.Session}
 use Rattle.core_due.specs.{Due.{all_below, is_empty_desk}, Look.{cell_at, setting_by, world_by}, Wants.{child_of, is_carried_at, wanted_of}, declared.parts.PartDue.PartDue}
 use Rattle.core_due.specs.declared.parts.PartDue.TheVariants.{Descends, Enters, Tree}
-use Rattle.core_steps.specs.declared.trees.TreeStep.TheVariants.{VisitBlock}
+use Rattle.core_due.specs.core_steps.specs.declared.trees.TreeStep.TheVariants.{VisitBlock}
 
 -- a row and the block at which it is carried are of the dimensions
 pub record CanPick (h : List Dimension) (cells : List (Option Cell)) (e : ErrandValue) : Type 0 where

@@ -2,7 +2,7 @@
 use Rattle.std.specs.{Option.option_map_or, Prelude.{List, map, Option}}
 use Rattle.dim_hierarchy.specs.Dimension.{Dimension}
 use Rattle.row_ledger.specs.declared.settings.Use.{Use}
-use Rattle.volap_cell.specs.{Filling.world_of, Setting.Setting, World.World, declared.actor.Actor.Actor, declared.cell.Cell.Cell, declared.role.Role.Role, declared.role.Role.TheVariants.Hand}
+use Rattle.core_pages.specs.volap_cell.specs.{Filling.world_of, Setting.Setting, World.World, declared.actor.Actor.Actor, declared.cell.Cell.Cell, declared.role.Role.Role, declared.role.Role.TheVariants.Hand}
 
 -- what each actor is there for
 abbrev pub roles_in : List (Option Actor) → List Role

@@ -2,11 +2,11 @@
 ghost use Rattle.std.specs.Prelude.{◌≡◌, option_copied};
 ghost use Rattle.core_due.specs.Due.{does_nothing};
 ghost use Rattle.seeded_run.specs.Look.{alone_by, others_end, others_rest, rests};
-ghost use Rattle.volap_cell.specs.Values.{actor_of};
+ghost use Rattle.core_pages.specs.volap_cell.specs.Values.{actor_of};
 
 use core_due::is_spent;
+use core_pages::volap_cell::Actor;
 use script_form::Command;
-use volap_cell::Actor;
 
 /// Whether the actor has nothing to do, and is not counted in at its desk.
 pub(crate) fn does_nothing(actor: &Actor) -> bool

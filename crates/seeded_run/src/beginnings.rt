@@ -1,20 +1,20 @@
 //! The steps by which an actor begins its next command.
 ghost use Rattle.std.specs.Prelude.{ℕ, ◌≡◌, true, Err, OnErr, OnOk, Some};
-ghost use Rattle.core_steps.specs.Steps.{IsFurther, IsSame};
+ghost use Rattle.core_due.specs.core_steps.specs.Steps.{IsFurther, IsSame};
 ghost use Rattle.dim_hierarchy.specs.declared.hierarchy.FilterFault.TheVariants.{Unknown};
 ghost use Rattle.script_form.specs.declared.script.Command.TheVariants.{Control, Insert, Query};
 ghost use Rattle.script_run.specs.Runs.{first_unknown};
 ghost use Rattle.seeded_run.specs.Commands.{GoesBy, IsToBegin, beginning, may_be_refused};
 ghost use Rattle.seeded_run.specs.Core.{HasCore, StepsOn};
-ghost use Rattle.volap_cell.specs.ImageKinds.{asks_registry};
-ghost use Rattle.volap_cell.specs.declared.kind.Kind.TheVariants.{Note};
+ghost use Rattle.core_pages.specs.volap_cell.specs.ImageKinds.{asks_registry};
+ghost use Rattle.core_pages.specs.volap_cell.specs.declared.kind.Kind.TheVariants.{Note};
 
-use core_steps::{BeginStep, NoteStep, desk_place, image_place, make};
+use core_due::core_steps::{BeginStep, NoteStep, desk_place, image_place, make};
+use core_pages::volap_cell::State;
 use dim_hierarchy::{FilterFault, Hierarchy};
 use row_ledger::{Call, Class, Subject, Use};
 use script_form::{Command, NewRow, Question};
 use std::alloc::{AllocError, Global};
-use volap_cell::State;
 
 /// The actor begins its insert at the image of its server. Where a name is not that of a leaf concept, or
 /// memory is wanting, the state stays as it was.

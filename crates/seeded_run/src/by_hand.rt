@@ -6,8 +6,8 @@ ghost use Rattle.seeded_run.specs.Kept.{AreIdle, IsBetween, IsStopped};
 ghost use Rattle.seeded_run.specs.Machine.{AreFirstCursors, BeginsNow, HasStoppedBehindAny, HasTurned, HoldsNow, IsDueNow, IsDueStep, IsFirstMoment, IsPhaseHeld, IsSamePhase, about_in, can_in, phase_of, world_of};
 ghost use Rattle.seeded_run.specs.Phase.{ClosesLast, IsCoreHeld, MayAllRun, StopsBehindAny, about, held, phase_from};
 ghost use Rattle.seeded_run.specs.declared.turn.DueStep.TheVariants.{AtWork};
-ghost use Rattle.volap_cell.specs.Setting.{actor_count};
-ghost use Rattle.volap_cell.specs.declared.kind.Kind.TheVariants as kind_is;
+ghost use Rattle.core_pages.specs.volap_cell.specs.Setting.{actor_count};
+ghost use Rattle.core_pages.specs.volap_cell.specs.declared.kind.Kind.TheVariants as kind_is;
 
 use crate::hands::FreeHands;
 use crate::kinds::{kind_of_beginning, kind_of_part, kind_of_work};
@@ -15,7 +15,8 @@ use crate::machine::Running;
 use crate::phase::{first_cursors, streams_open};
 use crate::turn::DueStep;
 use core_due::WorkDue;
-use core_steps::{JobStep, make};
+use core_due::core_steps::{JobStep, make};
+use core_pages::volap_cell::{Kind, State};
 use dim_hierarchy::Hierarchy;
 use row_ledger::Use;
 use script_form::Command;
@@ -23,7 +24,6 @@ use seeded_turns::Machine;
 use std::alloc::{AllocError, Global};
 use std::mem::replace;
 use std::snapshot::Snapshot;
-use volap_cell::{Kind, State};
 
 /// An actor's number, and the kind of step that it makes; or none, where it can make no step at that time. `Postpone` is
 /// made in place of the step of a job that is due, as where that finds no memory.

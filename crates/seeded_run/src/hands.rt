@@ -3,7 +3,7 @@ ghost use Rattle.std.specs.Prelude.{◌≡◌, ◌≢◌, ℕ, Some, None, get_o
 ghost use Rattle.seeded_run.specs.Hands.{AreFreeHands, IsFreeHandAt};
 
 use crate::alone::does_nothing;
-use volap_cell::{Actor, Role};
+use core_pages::volap_cell::{Actor, Role};
 
 /// So many actors are told of, the first ones. A script has no more.
 const ACTORS: usize = 256;

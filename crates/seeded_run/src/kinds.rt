@@ -2,19 +2,19 @@
 ghost use Rattle.std.specs.Prelude.{◌≡◌};
 ghost use Rattle.core_due.specs.Parts.{due_kind};
 ghost use Rattle.core_due.specs.Works.{work_due_kind};
-ghost use Rattle.core_steps.specs.Books.{book_kind};
-ghost use Rattle.core_steps.specs.Jobs.{job_kind};
-ghost use Rattle.core_steps.specs.Parts.{part_kind};
-ghost use Rattle.core_steps.specs.Trees.{tree_kind};
+ghost use Rattle.core_due.specs.core_steps.specs.Books.{book_kind};
+ghost use Rattle.core_due.specs.core_steps.specs.Jobs.{job_kind};
+ghost use Rattle.core_due.specs.core_steps.specs.Parts.{part_kind};
+ghost use Rattle.core_due.specs.core_steps.specs.Trees.{tree_kind};
 ghost use Rattle.seeded_run.specs.Commands.{beginning};
 ghost use Rattle.seeded_run.specs.Look.{HasNames};
 
 use crate::names_due::are_known;
+use core_due::core_steps::{BookStep, JobStep, PartStep, TreeStep};
 use core_due::{PartDue, WorkDue};
-use core_steps::{BookStep, JobStep, PartStep, TreeStep};
+use core_pages::volap_cell::Kind;
 use dim_hierarchy::Hierarchy;
 use script_form::Command;
-use volap_cell::Kind;
 
 /// The kind of a step between desks, tables of shards and gates.
 fn kind_of_step(step: &PartStep) -> Kind

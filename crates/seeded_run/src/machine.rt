@@ -13,8 +13,9 @@ use crate::parts::{go_on_at_part, take_part};
 use crate::survey::Survey;
 use crate::turn::{DueStep, due, is_its_turn};
 use crate::works::go_on_with_work;
+use core_due::core_steps::{ReuseStep, make};
 use core_due::{PartDue, WorkDue, reuse_due};
-use core_steps::{ReuseStep, make};
+use core_pages::volap_cell::State;
 use dim_hierarchy::Hierarchy;
 use row_ledger::Use;
 use script_form::Command;
@@ -22,7 +23,6 @@ use script_run::{next_of, session_of};
 use seeded_turns::Machine;
 use std::alloc::{AllocError, Global};
 use std::snapshot::Snapshot;
-use volap_cell::State;
 
 /// A phase that runs.
 #[derive(Drop)]

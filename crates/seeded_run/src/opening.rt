@@ -3,14 +3,14 @@ ghost use Rattle.std.specs.Prelude.{◌≡◌, Bool, [], IfOk};
 ghost use Rattle.script_roles.specs.Roles.{CanOpen, roles_of};
 ghost use Rattle.seeded_run.specs.Kept.{IsBetween};
 ghost use Rattle.seeded_run.specs.Phase.{IsCoreHeld, about, held};
-ghost use Rattle.volap_cell.specs.Opening.{IsOpening};
+ghost use Rattle.core_pages.specs.volap_cell.specs.Opening.{IsOpening};
 
+use core_pages::volap_cell::{State, open};
 use dim_hierarchy::Hierarchy;
 use row_ledger::Use;
 use script_roles::script_roles;
 use script_run::laws::phases_begin_and_end;
 use std::alloc::{AllocError, Global};
-use volap_cell::{State, open};
 
 /// The core of a script as it opens: its cells, and an actor for each session by server, for the puller and for the
 /// administrator, and a hand for each thread of each worker. It meets the invariant, and no command has begun in it. It

@@ -4,20 +4,20 @@ ghost use Rattle.core_due.specs.Look.{setting_by, world_by};
 ghost use Rattle.core_due.specs.Parts.{due_kind, due_may_fail, ending};
 ghost use Rattle.core_due.specs.Ready.{CanDescend};
 ghost use Rattle.core_due.specs.Rows.{descent_of, entrance_of};
-ghost use Rattle.core_steps.specs.Steps.{IsFurther, IsSame, IsSound};
-ghost use Rattle.core_steps.specs.declared.rows.RowStep.{RowStep};
+ghost use Rattle.core_due.specs.core_steps.specs.Steps.{IsFurther, IsSame, IsSound};
+ghost use Rattle.core_due.specs.core_steps.specs.declared.rows.RowStep.{RowStep};
 ghost use Rattle.seeded_run.specs.Arms.{GoesOnAtPart};
 ghost use Rattle.seeded_run.specs.Drives.{HasActor, MayEnd, MayEndInstead, MayGoOn, MayTake};
-ghost use Rattle.volap_cell.specs.ShardKinds.{pin_of};
-ghost use Rattle.volap_cell.specs.Values.{ErrandValue, actor_of, errand_of};
-ghost use Rattle.volap_cell.specs.declared.kind.Kind.TheVariants.{FinishPart, TakePart};
+ghost use Rattle.core_pages.specs.volap_cell.specs.ShardKinds.{pin_of};
+ghost use Rattle.core_pages.specs.volap_cell.specs.Values.{ErrandValue, actor_of, errand_of};
+ghost use Rattle.core_pages.specs.volap_cell.specs.declared.kind.Kind.TheVariants.{FinishPart, TakePart};
 
+use core_due::core_steps::{PartStep, RowStep, make};
 use core_due::{PartDue, awaiting, descend, desk_at, ending, enter};
-use core_steps::{PartStep, RowStep, make};
+use core_pages::volap_cell::{Actor, Errand, State, Task, lent};
 use dim_hierarchy::Hierarchy;
 use row_ledger::Use;
 use std::alloc::{AllocError, Global};
-use volap_cell::{Actor, Errand, State, Task, lent};
 
 /// The step by which a part ends that can end.
 fn end_of(with: &Use, errand: &Errand) -> PartStep

@@ -9,6 +9,7 @@ ghost use Rattle.seeded_run.specs.Order.{is_order};
 
 use crate::hands::first_hands;
 use crate::machine::Running;
+use core_pages::volap_cell::State;
 use dim_hierarchy::Hierarchy;
 use row_ledger::Use;
 use script_form::Command;
@@ -19,7 +20,6 @@ use std::marker::Brand;
 use std::mem::replace;
 use std::snapshot::Snapshot;
 use std::sync::ledger::Blank;
-use volap_cell::State;
 
 /// Whether the commands go one after the other.
 fn is_order(schedule: &Schedule) -> bool

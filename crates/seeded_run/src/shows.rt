@@ -2,26 +2,26 @@
 ghost use Rattle.std.specs.Prelude.{◌≡◌, [], IfOk, option_copied};
 ghost use Rattle.core_due.specs.Look.{cell_at, setting_by, world_by};
 ghost use Rattle.core_due.specs.WorksReady.{MayMakeNote};
-ghost use Rattle.core_steps.specs.Steps.{IsSound};
-ghost use Rattle.core_steps.specs.declared.notes.NoteStep.TheVariants as note;
+ghost use Rattle.core_due.specs.core_steps.specs.Steps.{IsSound};
+ghost use Rattle.core_due.specs.core_steps.specs.declared.notes.NoteStep.TheVariants as note;
 ghost use Rattle.row_ledger.specs.declared.class.Subject.TheVariants as subject;
 ghost use Rattle.row_ledger.specs.declared.settings.How.TheVariants as how;
 ghost use Rattle.seeded_run.specs.Arms.{GoesOnWithCommand};
 ghost use Rattle.seeded_run.specs.Pages.{CanShow, MayTell, place_of};
 ghost use Rattle.server_image.specs.Registry.{host_of};
-ghost use Rattle.volap_cell.specs.Cells.{registry_in};
-ghost use Rattle.volap_cell.specs.Setting.{registry_cell};
-ghost use Rattle.volap_cell.specs.declared.kind.Kind.TheVariants.{Note};
+ghost use Rattle.core_pages.specs.volap_cell.specs.Cells.{registry_in};
+ghost use Rattle.core_pages.specs.volap_cell.specs.Setting.{registry_cell};
+ghost use Rattle.core_pages.specs.volap_cell.specs.declared.kind.Kind.TheVariants.{Note};
 
 use crate::works::end_command;
+use core_due::core_steps::{NoteStep, make, registry_place};
 use core_due::{cell_at, map_at, where_at};
 use core_pages::Lent;
-use core_steps::{NoteStep, make, registry_place};
+use core_pages::volap_cell::{Cell, State};
 use dim_hierarchy::Hierarchy;
 use mapping_table::Where;
 use row_ledger::{How, Page, Subject, Use};
 use std::alloc::{AllocError, Global};
-use volap_cell::{Cell, State};
 
 /// The worker of a shard, as the registry tells; none where it tells none.
 fn host_at(cells: &[Option<Cell>], shard: u32) -> Option<u8>

@@ -6,14 +6,14 @@ ghost use Rattle.seeded_run.specs.Hands.{AreFreeHands};
 ghost use Rattle.core_due.specs.Look.{cell_at};
 ghost use Rattle.seeded_run.specs.Survey.{AllAwaited, IsSurvey, KnowsAwaited, MarksCarried, mark_of, worker_count};
 ghost use Rattle.seeded_run.specs.Takes.{carries_at};
-ghost use Rattle.volap_cell.specs.Cells.{desk_in};
+ghost use Rattle.core_pages.specs.volap_cell.specs.Cells.{desk_in};
 
 use crate::hands::FreeHands;
 use crate::wanted::block_carried;
 use core_due::{cell_at, desk_at};
+use core_pages::volap_cell::{Actor, Cell, State};
 use query_router::{Desk, Part};
 use row_ledger::Use;
-use volap_cell::{Actor, Cell, State};
 
 /// So many workers a byte tells.
 const WORKERS: usize = 256;

@@ -16,24 +16,24 @@ ghost use Rattle.seeded_run.specs.Look.{IsTold, ahead, alone_by};
 ghost use Rattle.seeded_run.specs.Survey.{IsSurvey};
 ghost use Rattle.seeded_run.specs.Takes.{AsksHere, CanPick, HasDeskFor, free_by, is_free_by, may_next};
 ghost use Rattle.seeded_run.specs.declared.turn.DueStep.TheVariants as step;
-ghost use Rattle.volap_cell.specs.Setting.{Setting};
-ghost use Rattle.volap_cell.specs.Values.{ErrandValue, actor_of, errand_of};
-ghost use Rattle.volap_cell.specs.World.{World};
+ghost use Rattle.core_pages.specs.volap_cell.specs.Setting.{Setting};
+ghost use Rattle.core_pages.specs.volap_cell.specs.Values.{ErrandValue, actor_of, errand_of};
+ghost use Rattle.core_pages.specs.volap_cell.specs.World.{World};
 
 use crate::alone::is_alone;
 use crate::survey::Survey;
 use crate::wanted::{is_drained, is_wanted_free};
+use core_due::core_steps::{ReuseStep, TreeStep};
 use core_due::{
     PartDue, WorkDue, awaiting, is_spent, part_due, reuse_due, tell_bytes, waits_for_others,
     work_due,
 };
-use core_steps::{ReuseStep, TreeStep};
+use core_pages::tree_shape::tree_laws;
+use core_pages::volap_cell::{Actor, Command as Open, Errand, Role, State};
 use dim_hierarchy::Hierarchy;
 use row_ledger::Use;
 use script_form::Command;
 use script_run::closes;
-use tree_shape::tree_laws;
-use volap_cell::{Actor, Command as Open, Errand, Role, State};
 
 /// What an actor does on its turn, by the step that is due for it.
 #[derive(Drop)]

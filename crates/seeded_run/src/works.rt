@@ -4,22 +4,22 @@ ghost use Rattle.core_due.specs.Splits.{split_of};
 ghost use Rattle.core_due.specs.Works.{work_due_kind};
 ghost use Rattle.core_due.specs.WorksReady.{IsWorkReady, MayMakeBook, MayMakeJob, MayMakeNote};
 ghost use Rattle.core_due.specs.declared.works.WorkDue.TheVariants.{Books, Jobs};
-ghost use Rattle.core_steps.specs.Books.{book_kind};
-ghost use Rattle.core_steps.specs.Jobs.{job_kind};
-ghost use Rattle.core_steps.specs.Steps.{IsSound};
-ghost use Rattle.core_steps.specs.declared.jobs.JobStep.{JobStep};
-ghost use Rattle.core_steps.specs.declared.notes.NoteStep.TheVariants as note;
+ghost use Rattle.core_due.specs.core_steps.specs.Books.{book_kind};
+ghost use Rattle.core_due.specs.core_steps.specs.Jobs.{job_kind};
+ghost use Rattle.core_due.specs.core_steps.specs.Steps.{IsSound};
+ghost use Rattle.core_due.specs.core_steps.specs.declared.jobs.JobStep.{JobStep};
+ghost use Rattle.core_due.specs.core_steps.specs.declared.notes.NoteStep.TheVariants as note;
 ghost use Rattle.seeded_run.specs.Arms.{GoesOnWithCommand};
 ghost use Rattle.seeded_run.specs.Drives.{HasActor, MayGiveWay, MayShow, Stops, StopsJob, StopsAtDesk, instead_of, is_balance, is_past_freeze, kind_of_stop};
-ghost use Rattle.volap_cell.specs.declared.kind.Kind.TheVariants.{Note};
+ghost use Rattle.core_pages.specs.volap_cell.specs.declared.kind.Kind.TheVariants.{Note};
 
 use crate::shows::show_page;
+use core_due::core_steps::{BookStep, JobStep, NoteStep, PartStep, make};
 use core_due::{WorkDue, split_of};
-use core_steps::{BookStep, JobStep, NoteStep, PartStep, make};
+use core_pages::volap_cell::{Command, State, Work, lent};
 use dim_hierarchy::Hierarchy;
 use row_ledger::{How, Use};
 use std::alloc::Global;
-use volap_cell::{Command, State, Work, lent};
 
 /// The actor's called command ends so. Takes no memory.
 pub(crate) fn end_command(alloc: Global, h: &Hierarchy, state: &mut State, number: usize, how: How)

@@ -1,17 +1,17 @@
 -- What a session's beginnings and notes come to.
 use Rattle.std.proofs.Common.{◌≡◌, ◌∙◌, ◌≤◌, ℕ, ℤ, false, List, length, Some, refl, sym, ap, subst}
-use Rattle.core_image.specs.Told.{asked_by, begun_by, refused_by, unknown_by}
-use Rattle.core_steps.specs.{Begins.{begin_kind, begin_places, begin_tells}, Notes.{note_kind, note_places, note_tells}}
-use Rattle.core_steps.specs.declared.begins.BeginStep.TheVariants as begin
-use Rattle.core_steps.specs.declared.notes.NoteStep.TheVariants as note
+use Rattle.part_steps.specs.core_image.specs.Told.{asked_by, begun_by, refused_by, unknown_by}
+use Rattle.part_steps.specs.core_steps.specs.{Begins.{begin_kind, begin_places, begin_tells}, Notes.{note_kind, note_places, note_tells}}
+use Rattle.part_steps.specs.core_steps.specs.declared.begins.BeginStep.TheVariants as begin
+use Rattle.part_steps.specs.core_steps.specs.declared.notes.NoteStep.TheVariants as note
 use Rattle.dim_hierarchy.specs.{declared.filter.Pick.Pick, declared.row.Coord.Coord}
 use Rattle.list_words.proofs.Elements.{Some-same}
 use Rattle.session_steps.proofs.CommandsMade.{insert-begins, query-begins, refused-noted, unknown-noted}
-use Rattle.seat_steps.proofs.Since.{mid-same, pushed-since}
-use Rattle.seat_steps.specs.{Booked.{HasBooked, IsUnchanged}, declared.floor.{Floor.Floor, Player.Player}}
+use Rattle.part_steps.specs.seat_steps.proofs.Since.{mid-same, pushed-since}
+use Rattle.part_steps.specs.seat_steps.specs.{Booked.{HasBooked, IsUnchanged}, declared.floor.{Floor.Floor, Player.Player}}
 use Rattle.session_steps.specs.Begins.{HasAsked, HasBegunInsert, HasNoted, row_at}
-use Rattle.volap_cell.specs.{ImageKinds.{IsFree, doing}, Setting.Setting, Values.{ActorValue, actor_of}, World.World, declared.command.Command.Command, declared.command.Work.Work}
-use Rattle.volap_cell.specs.declared.command.Work.TheVariants as work_is
+use Rattle.part_steps.specs.volap_cell.specs.{ImageKinds.{IsFree, doing}, Setting.Setting, Values.{ActorValue, actor_of}, World.World, declared.command.Command.Command, declared.command.Work.Work}
+use Rattle.part_steps.specs.volap_cell.specs.declared.command.Work.TheVariants as work_is
 
 -- where a command is read of an actor, it is that of which is said where it began
 pub began-at : (of : ℕ) (work : Work) (now : Player) (command : Command) → (actor_of now.actor).command ≡ doing of work → now.actor.command ≡ Some command → command.of ≡ of

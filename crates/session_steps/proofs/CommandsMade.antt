@@ -1,12 +1,12 @@
 -- What a step of a session's command makes of the history that it has seen, and of the session.
 use Rattle.std.proofs.Common.{◌≡◌, ◌∙◌, ℕ, ℤ, false, true, List, [], ◌∷◌, length, Option, Some, None, refl, sym, ap, subst}
 use mathlib.Core.Option.{some}
-use Rattle.core_image.specs.Told.{asked_by, begun_by, refused_by, unknown_by}
-use Rattle.core_steps.specs.{Begins.{begin_kind, begin_places, begin_tells}, Books.{book_kind, book_places}, Notes.{note_kind, note_places, note_tells}, Parts.part_kind}
-use Rattle.core_steps.specs.declared.begins.BeginStep.TheVariants as begin
-use Rattle.core_steps.specs.declared.books.BookStep.TheVariants as book
-use Rattle.core_steps.specs.declared.notes.NoteStep.TheVariants as note
-use Rattle.core_steps.specs.declared.parts.PartStep.TheVariants.{TakePart}
+use Rattle.part_steps.specs.core_image.specs.Told.{asked_by, begun_by, refused_by, unknown_by}
+use Rattle.part_steps.specs.core_steps.specs.{Begins.{begin_kind, begin_places, begin_tells}, Books.{book_kind, book_places}, Notes.{note_kind, note_places, note_tells}, Parts.part_kind}
+use Rattle.part_steps.specs.core_steps.specs.declared.begins.BeginStep.TheVariants as begin
+use Rattle.part_steps.specs.core_steps.specs.declared.books.BookStep.TheVariants as book
+use Rattle.part_steps.specs.core_steps.specs.declared.notes.NoteStep.TheVariants as note
+use Rattle.part_steps.specs.core_steps.specs.declared.parts.PartStep.TheVariants.{TakePart}
 use Rattle.dim_hierarchy.specs.{Dimension.Dimension, declared.filter.Pick.Pick, declared.row.Coord.Coord, declared.row.Row.Row}
 use Rattle.list_words.proofs.Elements.{Some-same}
 use Rattle.measure_agg.specs.Aggregate.{Aggregate}
@@ -14,15 +14,15 @@ use Rattle.query_router.specs.Desk.{verdict_of}
 use Rattle.query_router.specs.declared.part.Verdict.TheVariants.{Sum}
 use Rattle.row_ledger.specs.{declared.event.Event.Event, declared.settings.Call.Call}
 use Rattle.row_ledger.specs.declared.event.Event.TheVariants as event
-use Rattle.seat_steps.specs.{Made.HasMade, declared.floor.Player.Player}
+use Rattle.part_steps.specs.seat_steps.specs.{Made.HasMade, declared.floor.Player.Player}
 use Rattle.session_steps.specs.{Begins.row_at, Commands.{IsEndFor, IsEndOf, IsFurtherWork}, declared.commands.End.End}
 use Rattle.session_steps.specs.declared.commands.End.TheVariants as end
 use Rattle.turn_table.specs.Numbered.{value_of}
-use Rattle.volap_cell.specs.{Cells.{CellValue, cell_of, desk_in}, ImageKinds.{DoesAck, DoesAnswer, DoesBeginInsert, DoesBeginQuery, DoesNote, DoesNoteWith, FailsQuery, FailsRouted, FailsUnrouted, IsFree, OfCalled, OfCalledAsking, OfCount, OfEnded, OfLeft, OfQuery, OfRefused, OfShown, OfUnknown, OfUnrouted, doing}, Kinds.Does, Setting.{Setting, ledger_cell}, Steps.Makes, Values.{ActorValue, actor_of}, World.{Change, World}, declared.cell.Cell.Cell, declared.command.Command.Command, declared.command.Work.Work, declared.kind.Kind.Kind}
-use Rattle.volap_cell.specs.declared.command.Work.TheVariants as work_is
-use Rattle.volap_cell.specs.declared.kind.Kind.TheVariants as kind
-use Rattle.volap_turns.specs.Rows.{AreAt, IsThere}
-use Rattle.seat_steps.proofs.HeldLedger.{HasSeenAll, IsNewest, PushesBy, changed, does-held, held_at, history_in, in_cell, newest, pushed, seen-now, seen-was, tells-held, told-by}
+use Rattle.part_steps.specs.volap_cell.specs.{Cells.{CellValue, cell_of, desk_in}, ImageKinds.{DoesAck, DoesAnswer, DoesBeginInsert, DoesBeginQuery, DoesNote, DoesNoteWith, FailsQuery, FailsRouted, FailsUnrouted, IsFree, OfCalled, OfCalledAsking, OfCount, OfEnded, OfLeft, OfQuery, OfRefused, OfShown, OfUnknown, OfUnrouted, doing}, Kinds.Does, Setting.{Setting, ledger_cell}, Steps.Makes, Values.{ActorValue, actor_of}, World.{Change, World}, declared.cell.Cell.Cell, declared.command.Command.Command, declared.command.Work.Work, declared.kind.Kind.Kind}
+use Rattle.part_steps.specs.volap_cell.specs.declared.command.Work.TheVariants as work_is
+use Rattle.part_steps.specs.volap_cell.specs.declared.kind.Kind.TheVariants as kind
+use Rattle.part_steps.specs.volap_turns.specs.Rows.{AreAt, IsThere}
+use Rattle.part_steps.specs.seat_steps.proofs.HeldLedger.{HasSeenAll, IsNewest, PushesBy, changed, does-held, held_at, history_in, in_cell, newest, pushed, seen-now, seen-was, tells-held, told-by}
 
 -- Steps that push no event. The session has the same command open, or the part of its insert is laid.
 

@@ -1,19 +1,19 @@
 -- A session that comes to the desk of its server, or leaves it: what the count asks is so, and what it makes of the session.
 use Rattle.std.proofs.{Common.{◌≡◌, ◌≢◌, ◌∙◌, ℕ, zero, suc, ◌+◌, ◌^◌, ◌<◌, ◌≤◌, ◌&&◌, Bool, true, false, not, List, [], ◌∷◌, Option, None, refl, sym, ap, subst, arith, inl, inr}, lemmas.Bool.and_right}
 use Rattle.std.specs.Prelude.{⊤}
-use Rattle.core_image.specs.NotesDue.{CanCount}
-use Rattle.core_steps.specs.{Counts.count_asks, Places.{one_at, swaps, values}}
-use Rattle.core_steps.specs.declared.counts.CountStep.TheVariants as count
+use Rattle.part_steps.specs.core_image.specs.NotesDue.{CanCount}
+use Rattle.part_steps.specs.core_steps.specs.{Counts.count_asks, Places.{one_at, swaps, values}}
+use Rattle.part_steps.specs.core_steps.specs.declared.counts.CountStep.TheVariants as count
 use Rattle.dim_hierarchy.specs.Dimension.{Dimension}
 use Rattle.row_ledger.specs.LedgerValue.{LedgerValue}
-use Rattle.seat_steps.specs.{Floors.{AreTold, IsAround, kept_on}, Made.{HasMade, IsKeptBy}, declared.floor.{Floor.Floor, Player.Player}}
+use Rattle.part_steps.specs.seat_steps.specs.{Floors.{AreTold, IsAround, kept_on}, Made.{HasMade, IsKeptBy}, declared.floor.{Floor.Floor, Player.Player}}
 use Rattle.session_steps.specs.Books.{AreBooksOf}
-use Rattle.seat_steps.proofs.Around.{around, asked-held}
+use Rattle.part_steps.specs.seat_steps.proofs.Around.{around, asked-held}
 use Rattle.session_steps.proofs.OneHeld.{HasOne, at-one, one-made, one-there, same-actor}
 use Rattle.turn_table.specs.Numbered.{after_first}
-use Rattle.volap_cell.proofs.{Cells.Numbers.tag-desk, Sums.sum-less}
-use Rattle.volap_cell.specs.{Cells.{CellValue, DeskOf, LedgerCell, TheLedger, cell_of, desk_in, tag_of}, Errands.way_of, ImageKinds.{CountsSession, DoesNote, DoesNoteWith, OfCalled, OfCalledAsking, OfCount, OfEnded, OfLeft, OfQuery, OfRefused, OfShown, OfUnknown, OfUnrouted}, Kinds.Does, Owing.{one_if, serves}, Setting.{Setting, actor_count, desk_cell, ledger_cell}, State.changes_of, Sums.sum_below, Values.{ActorValue, ErrandValue, actor_of}, World.{Change, World}, declared.kind.Kind.TheVariants.Note, declared.role.Role.TheVariants.Session}
-use Rattle.volap_turns.specs.Rows.{cells_for}
+use Rattle.part_steps.specs.volap_cell.proofs.{Cells.Numbers.tag-desk, Sums.sum-less}
+use Rattle.part_steps.specs.volap_cell.specs.{Cells.{CellValue, DeskOf, LedgerCell, TheLedger, cell_of, desk_in, tag_of}, Errands.way_of, ImageKinds.{CountsSession, DoesNote, DoesNoteWith, OfCalled, OfCalledAsking, OfCount, OfEnded, OfLeft, OfQuery, OfRefused, OfShown, OfUnknown, OfUnrouted}, Kinds.Does, Owing.{one_if, serves}, Setting.{Setting, actor_count, desk_cell, ledger_cell}, State.changes_of, Sums.sum_below, Values.{ActorValue, ErrandValue, actor_of}, World.{Change, World}, declared.kind.Kind.TheVariants.Note, declared.role.Role.TheVariants.Session}
+use Rattle.part_steps.specs.volap_turns.specs.Rows.{cells_for}
 
 -- Fewer are counted than there are actors, where one isn't counted.
 

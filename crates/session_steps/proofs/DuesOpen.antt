@@ -1,20 +1,20 @@
 -- What is due for the command that a session has open is prepared: its part is laid, it goes on by the parts on its desk, or it fails.
 use Rattle.std.proofs.Common.{◌≡◌, ◌∙◌, ℕ, ◌^◌, ◌<◌, Bool, true, false, Option, Some, None, refl, sym, ap, subst, if◌then◌else◌, arith}
 use Rattle.std.specs.List.{list_any}
-use Rattle.core_due.specs.{Due.is_empty_desk, Wants.is_drained, WorkLaws.{IsAtWork, WorkAskedLaw, WorkPreparedLaw}, Works.{insert_due, parts_due, query_due, route_due, verdict_due, work_due}, WorksReady.{AreBytes, IsWorkPrepared, most_in}, declared.works.WorkDue.WorkDue}
-use Rattle.core_due.specs.declared.works.WorkDue.TheVariants.{Books, Takes}
-use Rattle.core_steps.specs.{Books.{book_asks, book_places}, Parts.{part_asks, part_places}, declared.books.BookStep.BookStep}
-use Rattle.core_steps.specs.declared.books.BookStep.TheVariants as book
-use Rattle.core_steps.specs.declared.parts.PartStep.TheVariants.{TakePart}
+use Rattle.part_steps.specs.core_due.specs.{Due.is_empty_desk, Wants.is_drained, WorkLaws.{IsAtWork, WorkAskedLaw, WorkPreparedLaw}, Works.{insert_due, parts_due, query_due, route_due, verdict_due, work_due}, WorksReady.{AreBytes, IsWorkPrepared, most_in}, declared.works.WorkDue.WorkDue}
+use Rattle.part_steps.specs.core_due.specs.declared.works.WorkDue.TheVariants.{Books, Takes}
+use Rattle.part_steps.specs.core_steps.specs.{Books.{book_asks, book_places}, Parts.{part_asks, part_places}, declared.books.BookStep.BookStep}
+use Rattle.part_steps.specs.core_steps.specs.declared.books.BookStep.TheVariants as book
+use Rattle.part_steps.specs.core_steps.specs.declared.parts.PartStep.TheVariants.{TakePart}
 use Rattle.query_router.specs.{Desk.{DeskValue, is_waiting, verdict_of}, declared.part.{Verdict.Verdict}}
 use Rattle.query_router.specs.declared.part.Verdict.TheVariants as verdict
-use Rattle.seat_steps.proofs.Around.{seen-there}
+use Rattle.part_steps.specs.seat_steps.proofs.Around.{seen-there}
 use Rattle.session_steps.proofs.Servers.{desk-is, image-tag, role-is}
-use Rattle.seat_steps.specs.{Booked.IsDue, Floors.IsAround, Looks.Sees, declared.floor.{Floor.Floor, Player.Player}}
+use Rattle.part_steps.specs.seat_steps.specs.{Booked.IsDue, Floors.IsAround, Looks.Sees, declared.floor.{Floor.Floor, Player.Player}}
 use Rattle.session_steps.specs.{Books.{AreBooksOf, EndsAtDesk, IsDueBy, fails_by}, Commands.{HasOpen, IsOfSession}}
-use Rattle.volap_cell.specs.{Cells.{cell_of, desk_in}, ImageKinds.doing, Setting.{Setting, ledger_cell}, Steps.history_in, Values.{ActorValue}, World.World, declared.command.Work.Work, declared.role.Role.Role}
-use Rattle.volap_cell.specs.declared.command.Work.TheVariants as work_is
-use Rattle.volap_turns.specs.Rows.{IsThere}
+use Rattle.part_steps.specs.volap_cell.specs.{Cells.{cell_of, desk_in}, ImageKinds.doing, Setting.{Setting, ledger_cell}, Steps.history_in, Values.{ActorValue}, World.World, declared.command.Work.Work, declared.role.Role.Role}
+use Rattle.part_steps.specs.volap_cell.specs.declared.command.Work.TheVariants as work_is
+use Rattle.part_steps.specs.volap_turns.specs.Rows.{IsThere}
 
 -- What is due by the parts on a desk: a part of this desk is taken, or the command ends by a step at this desk.
 

@@ -2,16 +2,16 @@
 use Rattle.std.proofs.Common.{◌≡◌, ◌∙◌, ℕ, ◌<◌, true, false, List, [], ◌∷◌, Option, Some, None, refl, sym, ap, subst, inl, inr}
 use Rattle.std.specs.Prelude.{⊤}
 use Rattle.cell_stock.specs.declared.purse.Spare.{Spare}
-use Rattle.core_due.specs.{Due.is_empty, Laws.SparesPreparedLaw, Ready.HasSpares}
-use Rattle.core_steps.specs.{Places.{one_at, swaps, values}, Trees.tree_asks, declared.trees.TreeStep.TheVariants.GiveBack}
+use Rattle.part_steps.specs.core_due.specs.{Due.is_empty, Laws.SparesPreparedLaw, Ready.HasSpares}
+use Rattle.part_steps.specs.core_steps.specs.{Places.{one_at, swaps, values}, Trees.tree_asks, declared.trees.TreeStep.TheVariants.GiveBack}
 use Rattle.dim_hierarchy.specs.Dimension.{Dimension}
-use Rattle.seat_steps.specs.{Floors.{AreTold, IsSeated, Stands, kept_on}, Made.{HasMade, IsKeptBy}, declared.floor.{Floor.Floor, Player.Player}}
+use Rattle.part_steps.specs.seat_steps.specs.{Floors.{AreTold, IsSeated, Stands, kept_on}, Made.{HasMade, IsKeptBy}, declared.floor.{Floor.Floor, Player.Player}}
 use Rattle.session_steps.specs.Coming.{HasEmptied}
-use Rattle.seat_steps.proofs.Around.{around, asked-held, within}
+use Rattle.part_steps.specs.seat_steps.proofs.Around.{around, asked-held, within}
 use Rattle.session_steps.proofs.OneHeld.{HasOne, at-one, one-made, one-there, same-actor}
 use Rattle.turn_table.specs.{Numbered.after_first, Seat.cell_count}
-use Rattle.volap_cell.specs.{Cells.{CellValue, cell_of}, Errands.way_of, ImageKinds.IsFree, Kinds.Does, Setting.{Setting, stock_cell}, State.changes_of, Values.{ActorValue, ErrandValue, actor_of}, World.{Change, World, change}, declared.kind.Kind.TheVariants.Refill}
-use Rattle.volap_turns.specs.Rows.{cells_for}
+use Rattle.part_steps.specs.volap_cell.specs.{Cells.{CellValue, cell_of}, Errands.way_of, ImageKinds.IsFree, Kinds.Does, Setting.{Setting, stock_cell}, State.changes_of, Values.{ActorValue, ErrandValue, actor_of}, World.{Change, World, change}, declared.kind.Kind.TheVariants.Refill}
+use Rattle.part_steps.specs.volap_turns.specs.Rows.{cells_for}
 
 -- an actor at no part has its purse emptied, and isn't changed else
 refill-empties : (h : List Dimension) (cs : List Change) (a b : ActorValue) → Does h Refill cs a b → a.errand ≡ None → b ≡ record a { purse = [] }

@@ -1,15 +1,15 @@
 -- How a session's command ends, by the step that is made.
 use Rattle.std.proofs.Common.{◌≡◌, ◌∙◌, ℕ, Some, sym, ap, subst}
-use Rattle.core_steps.specs.{Books.{book_asks, book_kind, book_places, book_tells}, declared.books.BookStep.BookStep}
-use Rattle.core_steps.specs.declared.books.BookStep.TheVariants as book
+use Rattle.part_steps.specs.core_steps.specs.{Books.{book_asks, book_kind, book_places, book_tells}, declared.books.BookStep.BookStep}
+use Rattle.part_steps.specs.core_steps.specs.declared.books.BookStep.TheVariants as book
 use Rattle.measure_agg.specs.Aggregate.{Aggregate}
 use Rattle.query_router.specs.{Desk.verdict_of, declared.part.Verdict.TheVariants.Sum}
-use Rattle.seat_steps.proofs.Around.{around, still-sees}
+use Rattle.part_steps.specs.seat_steps.proofs.Around.{around, still-sees}
 use Rattle.session_steps.proofs.CommandsMade.{EndsBy, ack-ends, answer-ends, query-ends, routed-ends, unrouted-ends}
-use Rattle.seat_steps.specs.{Booked.{HasBooked, IsDue}, Floors.IsSeated, declared.floor.{Floor.Floor, Player.Player}}
+use Rattle.part_steps.specs.seat_steps.specs.{Booked.{HasBooked, IsDue}, Floors.IsSeated, declared.floor.{Floor.Floor, Player.Player}}
 use Rattle.session_steps.specs.{Books.IsEndBy, declared.commands.End.End}
 use Rattle.session_steps.specs.declared.commands.End.TheVariants as end
-use Rattle.volap_cell.specs.{Cells.{desk_in}, Setting.Setting, Values.{ActorValue, actor_of}, World.World}
+use Rattle.part_steps.specs.volap_cell.specs.{Cells.{desk_in}, Setting.Setting, Values.{ActorValue, actor_of}, World.World}
 
 one-sum : (x y : Aggregate) → Some (Sum x) ≡ Some (Sum y) → x ≡ y
 one-sum x y e = cc

@@ -5,14 +5,14 @@ use mathlib.Core.Option.{some}
 use Rattle.row_ledger.specs.{Kept.KeepsRight, Past.{event_at, session_in}, Right.IsRight, declared.event.Event.Event}
 use Rattle.row_ledger.proofs.Before.{at-later}
 use Rattle.script_run.specs.Places.{begins_of}
-use Rattle.seat_steps.specs.{Floors.IsSeated, declared.floor.{Floor.Floor, Player.Player}}
+use Rattle.part_steps.specs.seat_steps.specs.{Floors.IsSeated, declared.floor.{Floor.Floor, Player.Player}}
 use Rattle.session_steps.proofs.Grown.{right-earlier}
-use Rattle.seat_steps.proofs.Since.{nothing-new}
+use Rattle.part_steps.specs.seat_steps.proofs.Since.{nothing-new}
 use Rattle.turn_table.specs.Numbered.{Extends, value_of}
 use Rattle.turn_table.proofs.Numbered.{there}
-use Rattle.volap_cell.specs.{Cells.{CellValue, ledger_in}, Setting.{Setting, ledger_cell, site_in}, Steps.history_in, Values.{ActorValue, actor_of}, World.World, declared.cell.Cell.Cell}
-use Rattle.volap_turns.specs.{Rule.history_of, Wholes.CanBe}
-use Rattle.volap_turns.proofs.Known.{is, me, setting-is}
+use Rattle.part_steps.specs.volap_cell.specs.{Cells.{CellValue, ledger_in}, Setting.{Setting, ledger_cell, site_in}, Steps.history_in, Values.{ActorValue, actor_of}, World.World, declared.cell.Cell.Cell}
+use Rattle.part_steps.specs.volap_turns.specs.{Rule.history_of, Wholes.CanBe}
+use Rattle.part_steps.specs.volap_turns.proofs.Known.{is, me, setting-is}
 
 module _ (f : Floor) (p : Player) (seated : IsSeated f p) where
   abbrev pub can : CanBe p.seat.view

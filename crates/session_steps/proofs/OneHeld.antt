@@ -3,15 +3,15 @@ use Rattle.std.proofs.Common.{◌≡◌, ◌≢◌, ◌∙◌, ℕ, true, false,
 use Rattle.std.specs.Prelude.{IsOk, OnOk}
 use mathlib.Core.Option.{none}
 use mathlib.Core.Option as maybe
-use Rattle.core_steps.specs.Places.{one_at, swaps}
+use Rattle.part_steps.specs.core_steps.specs.Places.{one_at, swaps}
 use Rattle.dim_hierarchy.specs.Dimension.{Dimension}
 use Rattle.row_ledger.specs.declared.event.Event.{Event}
-use Rattle.seat_steps.specs.{Floors.{IsSeated, Stands}, Made.HasMade, Takes.Takes, declared.floor.{Floor.Floor, Player.Player}}
+use Rattle.part_steps.specs.seat_steps.specs.{Floors.{IsSeated, Stands}, Made.HasMade, Takes.Takes, declared.floor.{Floor.Floor, Player.Player}}
 use Rattle.session_steps.specs.Coming.{Becomes}
 use Rattle.turn_table.specs.{Numbered.{Extends, numbers_of, value_of}, Views.seen_of}
 use Rattle.turn_table.proofs.Numbered.{find_else, find_here, find_same, none_same}
-use Rattle.volap_cell.specs.{Cells.{CellValue, cell_of}, Setting.{Setting, ledger_cell}, State.changes_of, Steps.Makes, Values.{ActorValue, actor_of}, World.{World, change}, declared.actor.Actor.Actor, declared.cell.Cell.Cell, declared.kind.Kind.Kind}
-use Rattle.volap_turns.specs.{Rows.{AreAt, IsThere, maybe_cell}, Rule.history_of}
+use Rattle.part_steps.specs.volap_cell.specs.{Cells.{CellValue, cell_of}, Setting.{Setting, ledger_cell}, State.changes_of, Steps.Makes, Values.{ActorValue, actor_of}, World.{World, change}, declared.actor.Actor.Actor, declared.cell.Cell.Cell, declared.kind.Kind.Kind}
+use Rattle.part_steps.specs.volap_turns.specs.{Rows.{AreAt, IsThere, maybe_cell}, Rule.history_of}
 
 -- a list in which one number stands alone
 single : {A : Type 0} (ps : List (ℕ × A)) (y : ℕ) → numbers_of ps ≡ y ∷ [] → (x : A) × (ps ≡ (y, x) ∷ [])

@@ -1,19 +1,19 @@
 -- The part that a session takes for its query has read no gate.
 use Rattle.std.proofs.{Common.{◌≡◌, ◌∙◌, ℕ, ◌<◌, List, Option, Some, refl, sym, ap, subst}, lemmas.Option.{get_or_from_slice_get, slice_get_within}}
 use Rattle.std.specs.Prelude.{slice_get}
-use Rattle.core_steps.specs.{Parts.{part_kind, part_places}, declared.parts.PartStep.TheVariants.TakePart}
+use Rattle.part_steps.specs.core_steps.specs.{Parts.{part_kind, part_places}, declared.parts.PartStep.TheVariants.TakePart}
 use Rattle.query_router.specs.{Desk.DeskValue, declared.part.{Part.Part, Want.Want}}
 use Rattle.query_router.specs.declared.part.PartState.TheVariants as state
 use Rattle.query_router.specs.declared.part.Want.TheVariants as want
 use Rattle.row_ledger.specs.Past.{Query}
-use Rattle.seat_steps.proofs.{Around.around, HeldLedger.{changed, does-held, in_cell}}
+use Rattle.part_steps.specs.seat_steps.proofs.{Around.around, HeldLedger.{changed, does-held, in_cell}}
 use Rattle.session_steps.proofs.Servers.{desk-is, role-is}
 use Rattle.part_steps.specs.Parts.{IsUnread}
-use Rattle.seat_steps.specs.{Floors.{IsAround, IsSeated}, Made.HasMade, declared.floor.{Floor.Floor, Player.Player}}
+use Rattle.part_steps.specs.seat_steps.specs.{Floors.{IsAround, IsSeated}, Made.HasMade, declared.floor.{Floor.Floor, Player.Player}}
 use Rattle.session_steps.specs.Books.{AreBooksOf}
-use Rattle.volap_cell.specs.{Cells.{CellValue, desk_in}, Desking.IsQueryState, ImageKinds.doing, Setting.Setting, ShardKinds.{DoesTakePart, errand_for, task_for}, Values.{ActorValue, actor_of}, World.World, declared.command.Command.Command}
-use Rattle.volap_cell.specs.declared.command.Work.TheVariants as work_is
-use Rattle.volap_turns.specs.Rows.{AreAt}
+use Rattle.part_steps.specs.volap_cell.specs.{Cells.{CellValue, desk_in}, Desking.IsQueryState, ImageKinds.doing, Setting.Setting, ShardKinds.{DoesTakePart, errand_for, task_for}, Values.{ActorValue, actor_of}, World.World, declared.command.Command.Command}
+use Rattle.part_steps.specs.volap_cell.specs.declared.command.Work.TheVariants as work_is
+use Rattle.part_steps.specs.volap_turns.specs.Rows.{AreAt}
 
 -- each part that waits on a desk asks for what the query does
 abbrev AskFor : Query → DeskValue → Type 0

@@ -1,19 +1,19 @@
 -- A session's server: its desk and its image are there, and what its session's beginnings ask of them is so.
 use Rattle.std.proofs.{Common.{◌≡◌, ◌≢◌, ◌∙◌, ℕ, ℤ, ◌+◌, ◌^◌, ◌<◌, true, List, length, Option, Some, None, refl, sym, ap, subst, arith}, lemmas.Option.get_or_from_slice_get}
 use Rattle.std.specs.{List.slice_index_or, Prelude.is_none}
-use Rattle.core_due.proofs.{BooksHeld.hold-ledger, Holding.{hold-three, hold-two, prepared}}
-use Rattle.core_due.specs.Due.{is_empty_desk}
-use Rattle.core_steps.specs.{Begins.{begin_asks, begin_places}, Notes.{note_asks, note_places}}
-use Rattle.core_steps.specs.declared.begins.BeginStep.TheVariants as begin
-use Rattle.core_steps.specs.declared.notes.NoteStep.TheVariants as note
+use Rattle.part_steps.specs.core_due.proofs.{BooksHeld.hold-ledger, Holding.{hold-three, hold-two, prepared}}
+use Rattle.part_steps.specs.core_due.specs.Due.{is_empty_desk}
+use Rattle.part_steps.specs.core_steps.specs.{Begins.{begin_asks, begin_places}, Notes.{note_asks, note_places}}
+use Rattle.part_steps.specs.core_steps.specs.declared.begins.BeginStep.TheVariants as begin
+use Rattle.part_steps.specs.core_steps.specs.declared.notes.NoteStep.TheVariants as note
 use Rattle.dim_hierarchy.specs.{Filter.IsFilterOf, Row.IsCoordOf, declared.filter.Pick.Pick, declared.row.Coord.Coord}
-use Rattle.seat_steps.proofs.Around.{around, seen-there}
-use Rattle.seat_steps.specs.{Booked.IsDue, Floors.{IsAround, IsSeated}, Looks.Sees, declared.floor.{Floor.Floor, Player.Player}}
+use Rattle.part_steps.specs.seat_steps.proofs.Around.{around, seen-there}
+use Rattle.part_steps.specs.seat_steps.specs.{Booked.IsDue, Floors.{IsAround, IsSeated}, Looks.Sees, declared.floor.{Floor.Floor, Player.Player}}
 use Rattle.session_steps.specs.Books.{AreBooksOf}
 use Rattle.turn_table.specs.Seat.{cell_count}
-use Rattle.volap_cell.proofs.Cells.Numbers.{tag-desk, tag-image}
-use Rattle.volap_cell.specs.{Cells.{DeskOf, ImageOf, TheLedger, desk_in, tag_of}, ImageKinds.IsFree, Numbering.IsRoleOf, Setting.{Setting, desk_cell, image_cell, ledger_cell}, Values.{ActorValue, actor_of}, World.World, declared.role.Role.TheVariants.Session}
-use Rattle.volap_turns.specs.Rows.{IsThere}
+use Rattle.part_steps.specs.volap_cell.proofs.Cells.Numbers.{tag-desk, tag-image}
+use Rattle.part_steps.specs.volap_cell.specs.{Cells.{DeskOf, ImageOf, TheLedger, desk_in, tag_of}, ImageKinds.IsFree, Numbering.IsRoleOf, Setting.{Setting, desk_cell, image_cell, ledger_cell}, Values.{ActorValue, actor_of}, World.World, declared.role.Role.TheVariants.Session}
+use Rattle.part_steps.specs.volap_turns.specs.Rows.{IsThere}
 
 -- Numbers.
 

@@ -3,13 +3,13 @@ use Rattle.std.proofs.Common.{◌≡◌, ◌∙◌, ℕ, false, List, length, Op
 use Rattle.row_ledger.specs.declared.event.Event.{Event}
 use Rattle.script_run.proofs.PlaceFacts.{begins_of-other}
 use Rattle.script_run.specs.Places.{begins_in, begins_of}
-use Rattle.seat_steps.proofs.Since.{extends-on, mid-same, none-since, number-since}
-use Rattle.seat_steps.specs.{Booked.{HasBooked, IsUnchanged}, Floors.Stands, declared.floor.{Floor.Floor, Player.Player}}
+use Rattle.part_steps.specs.seat_steps.proofs.Since.{extends-on, mid-same, none-since, number-since}
+use Rattle.part_steps.specs.seat_steps.specs.{Booked.{HasBooked, IsUnchanged}, Floors.Stands, declared.floor.{Floor.Floor, Player.Player}}
 use Rattle.session_steps.proofs.CommandsMade.{EndsBy, IsFurther}
 use Rattle.session_steps.specs.{Commands.{HasEnded, HasOpen, IsEndOf, IsStillOpen}, declared.commands.End.End}
 use Rattle.session_steps.specs.declared.commands.End.TheVariants as end
 use Rattle.turn_table.specs.Numbered.{Extends}
-use Rattle.volap_cell.specs.{Cells.CellValue, ImageKinds.doing, Setting.Setting, Values.{ActorValue, actor_of}, World.World, declared.kind.Kind.Kind}
+use Rattle.part_steps.specs.volap_cell.specs.{Cells.CellValue, ImageKinds.doing, Setting.Setting, Values.{ActorValue, actor_of}, World.World, declared.kind.Kind.Kind}
 
 -- the command is open then
 abbrev pub open-since : {was now : Player} → actor_of now.actor ≡ actor_of was.actor → HasOpen was → HasOpen now

@@ -1,16 +1,16 @@
 -- Where a session's query is to be answered, the parts on its desk come to a sum that can be counted.
 use Rattle.std.proofs.Common.{◌≡◌, ◌∙◌, ℕ, ◌<◌, Option, refl, sym, ap, subst}
 use Rattle.std.specs.Prelude.{IsSome}
-use Rattle.core_image.proofs.Answered.{few}
-use Rattle.core_steps.specs.Books.{book_asks, book_places}
-use Rattle.core_steps.specs.declared.books.BookStep.TheVariants as book
+use Rattle.part_steps.specs.core_image.proofs.Answered.{few}
+use Rattle.part_steps.specs.core_steps.specs.Books.{book_asks, book_places}
+use Rattle.part_steps.specs.core_steps.specs.declared.books.BookStep.TheVariants as book
 use Rattle.query_router.specs.{Desk.{DeskValue, verdict_of}}
-use Rattle.seat_steps.proofs.Around.{around}
+use Rattle.part_steps.specs.seat_steps.proofs.Around.{around}
 use Rattle.session_steps.proofs.Servers.{desk-is, role-is}
-use Rattle.seat_steps.specs.{Booked.IsDue, Floors.{IsAround, IsSeated}, Looks.Sees, declared.floor.{Floor.Floor, Player.Player}}
+use Rattle.part_steps.specs.seat_steps.specs.{Booked.IsDue, Floors.{IsAround, IsSeated}, Looks.Sees, declared.floor.{Floor.Floor, Player.Player}}
 use Rattle.session_steps.specs.Books.{AreBooksOf, CanSum}
-use Rattle.volap_cell.specs.{Cells.{CellValue, desk_in}, Setting.{Setting, desk_cell}, World.World, declared.command.Command.Command}
-use Rattle.volap_cell.specs.declared.command.Work.TheVariants as work_is
+use Rattle.part_steps.specs.volap_cell.specs.{Cells.{CellValue, desk_in}, Setting.{Setting, desk_cell}, World.World, declared.command.Command.Command}
+use Rattle.part_steps.specs.volap_cell.specs.declared.command.Work.TheVariants as work_is
 
 module _ (f : Floor) (p : Player) (desk image : ℕ) (books : AreBooksOf f p desk image) (due : IsDue f p (book_places (book.Answer desk)) (book_asks (book.Answer desk))) where
   sums-in : (s : Setting) (w : World) → IsAround f p s w → CanSum (desk_in (w.cells desk))

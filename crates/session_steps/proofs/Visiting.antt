@@ -1,18 +1,18 @@
 -- A query that visits the block that it noted last, without waiting: its turn can be taken, the visit is due, and the actor has gone on by it.
 use Rattle.std.proofs.Common.{◌≡◌, ◌∙◌, ℕ, ◌≤◌, List, [], ◌∷◌, ◌++◌, Option, Some, None, refl, sym, ap, subst}
 use Rattle.std.specs.Prelude.{⊤}
-use Rattle.core_steps.specs.{Places.one_at, Steps.Went, Trees.tree_places}
-use Rattle.core_steps.specs.declared.trees.TreeStep.TheVariants.{VisitBlock}
-use Rattle.core_tree.specs.ReadDue.{room_to_note}
-use Rattle.link_descent.specs.Visit.{most_noted}
+use Rattle.part_steps.specs.core_steps.specs.{Places.one_at, Steps.Went, Trees.tree_places}
+use Rattle.part_steps.specs.core_steps.specs.declared.trees.TreeStep.TheVariants.{VisitBlock}
+use Rattle.part_steps.specs.core_tree.specs.ReadDue.{room_to_note}
+use Rattle.part_steps.specs.link_descent.specs.Visit.{most_noted}
 use Rattle.part_steps.specs.{Parts.{IsTreeSure, IsVisiting, MayWaitFor}, Reads.{Anything, HasRoom, noted_by, noted_in, noted_on}}
-use Rattle.seat_steps.specs.{Floors.{IsSeated, Stands, kept_by}, Made.HasMade, Takes.{IsSameActor, TakesTurn}, declared.floor.{Floor.Floor, Player.Player}}
+use Rattle.part_steps.specs.seat_steps.specs.{Floors.{IsSeated, Stands, kept_by}, Made.HasMade, Takes.{IsSameActor, TakesTurn}, declared.floor.{Floor.Floor, Player.Player}}
 use Rattle.session_steps.specs.Visits.{HasVisited}
 use Rattle.part_steps.proofs.{PartsMade.{tree-at, tree-first, went-taken, went-tree}, PartsSure.{end-bare, tree-on, visit-ends, visit-sure}}
 use Rattle.turn_table.specs.Numbered.{Extends, numbers_of}
-use Rattle.volap_cell.specs.{Values.{ActorValue, ErrandValue, OfRow, Read, TaskValue, Unread, actor_of}, declared.actor.Actor.Actor}
-use Rattle.volap_cell.specs.declared.kind.Kind.TheVariants.{BlockVisit}
-use Rattle.volap_turns.specs.Rows.{AreAt, cells_for}
+use Rattle.part_steps.specs.volap_cell.specs.{Values.{ActorValue, ErrandValue, OfRow, Read, TaskValue, Unread, actor_of}, declared.actor.Actor.Actor}
+use Rattle.part_steps.specs.volap_cell.specs.declared.kind.Kind.TheVariants.{BlockVisit}
+use Rattle.part_steps.specs.volap_turns.specs.Rows.{AreAt, cells_for}
 
 -- Who has noted a block has read its gate.
 

@@ -1,13 +1,13 @@
 -- The beginning of a session's command, in the history that it has seen, the newest event first.
 use Rattle.std.specs.Prelude.{ℕ, ℤ, ◌≡◌, ◌≤◌, List, length, false}
 use Rattle.dim_hierarchy.specs.{declared.filter.Pick.Pick, declared.row.Coord.Coord, declared.row.Row.Row}
-use Rattle.core_image.specs.Told.{asked_by, begun_by}
+use Rattle.part_steps.specs.core_image.specs.Told.{asked_by, begun_by}
 use Rattle.row_ledger.specs.declared.event.Event.{Event}
-use Rattle.seat_steps.specs.{Booked.{HasPushed, IsAsBefore}, declared.floor.{Floor.Floor, Player.Player}}
+use Rattle.part_steps.specs.seat_steps.specs.{Booked.{HasPushed, IsAsBefore}, declared.floor.{Floor.Floor, Player.Player}}
 use Rattle.session_steps.specs.declared.begins.Begun.{Begun}
 use Rattle.session_steps.specs.declared.begins.Begun.TheVariants as begun
-use Rattle.volap_cell.specs.{ImageKinds.{IsFree, doing}, Values.{ActorValue, actor_of}, declared.role.Role.TheVariants.Session}
-use Rattle.volap_cell.specs.declared.command.Work.TheVariants as work_is
+use Rattle.part_steps.specs.volap_cell.specs.{ImageKinds.{IsFree, doing}, Values.{ActorValue, actor_of}, declared.role.Role.TheVariants.Session}
+use Rattle.part_steps.specs.volap_cell.specs.declared.command.Work.TheVariants as work_is
 
 -- A session that does nothing, and has noted no more of the history than it has seen.
 pub record CanBegin (p : Player) : Type 0 where

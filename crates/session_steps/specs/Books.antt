@@ -1,20 +1,20 @@
 -- The desk and the image of a session's server, and how a command ends by the parts that are on the desk.
 use Rattle.std.specs.Prelude.{ℕ, ◌≡◌, ◌+◌, ◌^◌, ◌<◌, ⊤, true, false, Option, Some, None, IsSome}
-use Rattle.core_due.specs.declared.works.WorkDue.{WorkDue}
-use Rattle.core_due.specs.declared.works.WorkDue.TheVariants as is_due
-use Rattle.core_image.specs.Asking.{IsSum}
-use Rattle.core_steps.specs.{Books.{book_asks, book_places}, Parts.{part_asks, part_places}, declared.books.BookStep.BookStep}
-use Rattle.core_steps.specs.declared.books.BookStep.TheVariants as book
-use Rattle.core_steps.specs.declared.parts.PartStep.TheVariants.{TakePart}
+use Rattle.part_steps.specs.core_due.specs.declared.works.WorkDue.{WorkDue}
+use Rattle.part_steps.specs.core_due.specs.declared.works.WorkDue.TheVariants as is_due
+use Rattle.part_steps.specs.core_image.specs.Asking.{IsSum}
+use Rattle.part_steps.specs.core_steps.specs.{Books.{book_asks, book_places}, Parts.{part_asks, part_places}, declared.books.BookStep.BookStep}
+use Rattle.part_steps.specs.core_steps.specs.declared.books.BookStep.TheVariants as book
+use Rattle.part_steps.specs.core_steps.specs.declared.parts.PartStep.TheVariants.{TakePart}
 use Rattle.measure_agg.specs.Aggregate.{Aggregate}
 use Rattle.query_router.specs.{Desk.{DeskValue, sum_of, verdict_of}, declared.part.Verdict.TheVariants.Sum}
-use Rattle.seat_steps.specs.{Booked.IsDue, Looks.Sees, declared.floor.{Floor.Floor, Player.Player}}
+use Rattle.part_steps.specs.seat_steps.specs.{Booked.IsDue, Looks.Sees, declared.floor.{Floor.Floor, Player.Player}}
 use Rattle.session_steps.specs.declared.commands.End.{End}
 use Rattle.session_steps.specs.declared.commands.End.TheVariants as end
 use Rattle.turn_table.specs.Seat.{cell_count}
-use Rattle.volap_cell.specs.{Cells.desk_in, Setting.image_cell, Values.actor_of, declared.{command.Work.Work, role.Role.TheVariants.Session}}
-use Rattle.volap_cell.specs.declared.command.Work.TheVariants as work_is
-use Rattle.volap_turns.specs.Rows.{IsThere}
+use Rattle.part_steps.specs.volap_cell.specs.{Cells.desk_in, Setting.image_cell, Values.actor_of, declared.{command.Work.Work, role.Role.TheVariants.Session}}
+use Rattle.part_steps.specs.volap_cell.specs.declared.command.Work.TheVariants as work_is
+use Rattle.part_steps.specs.volap_turns.specs.Rows.{IsThere}
 
 -- a session's server has its desk and its image in these cells
 pub record AreBooksOf (f : Floor) (p : Player) (desk image : ℕ) : Type 0 where

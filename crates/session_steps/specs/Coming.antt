@@ -1,8 +1,8 @@
 -- Sessions with nothing to do, which come and go.
 use Rattle.std.specs.Prelude.{ℕ, ◌≡◌, [], true, false}
-use Rattle.seat_steps.specs.{Floors.Stands, declared.floor.{Floor.Floor, Player.Player}}
+use Rattle.part_steps.specs.seat_steps.specs.{Floors.Stands, declared.floor.{Floor.Floor, Player.Player}}
 use Rattle.turn_table.specs.Numbered.{Extends}
-use Rattle.volap_cell.specs.{ImageKinds.IsFree, Values.{ActorValue, actor_of}, declared.role.Role.TheVariants.Session}
+use Rattle.part_steps.specs.volap_cell.specs.{ImageKinds.IsFree, Values.{ActorValue, actor_of}, declared.role.Role.TheVariants.Session}
 
 -- A session has no command, no part and no job.
 pub record IsAtNothing (p : Player) : Type 0 where

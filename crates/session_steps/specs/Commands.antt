@@ -4,13 +4,13 @@ use Rattle.dim_hierarchy.specs.declared.row.Row.{Row}
 use Rattle.row_ledger.specs.{Right.IsRight, declared.event.Event.Event}
 use Rattle.row_ledger.specs.declared.event.Event.TheVariants.{Acked, Answered, Failed}
 use Rattle.script_run.specs.Places.{begins_of}
-use Rattle.seat_steps.specs.{Floors.Stands, declared.floor.{Floor.Floor, Player.Player}}
+use Rattle.part_steps.specs.seat_steps.specs.{Floors.Stands, declared.floor.{Floor.Floor, Player.Player}}
 use Rattle.session_steps.specs.declared.commands.{End.End, Next.Next}
 use Rattle.session_steps.specs.declared.commands.End.TheVariants as end
 use Rattle.session_steps.specs.declared.commands.Next.TheVariants as next
 use Rattle.turn_table.specs.Numbered.{Extends}
-use Rattle.volap_cell.specs.{ImageKinds.doing, Setting.site_in, Values.{actor_of}, declared.command.Work.Work, declared.role.Role.TheVariants.Session}
-use Rattle.volap_cell.specs.declared.command.Work.TheVariants as work_is
+use Rattle.part_steps.specs.volap_cell.specs.{ImageKinds.doing, Setting.site_in, Values.{actor_of}, declared.command.Work.Work, declared.role.Role.TheVariants.Session}
+use Rattle.part_steps.specs.volap_cell.specs.declared.command.Work.TheVariants as work_is
 
 -- What is open.
 

@@ -3,20 +3,20 @@ ghost use Rattle.std.specs.Prelude.{◌≡◌, ◌<◌, ◌≤◌, IfOk, OnErr, 
 ghost use Rattle.dim_hierarchy.specs.Filter.{IsFilterOf};
 ghost use Rattle.dim_hierarchy.specs.Row.{IsCoordOf};
 ghost use Rattle.session_steps.specs.Begins.{CanBegin, HasBegunInsert, HasBegunQuery, HasNoted};
-ghost use Rattle.core_image.specs.Told.{refused_by, unknown_by};
-ghost use Rattle.seat_steps.specs.Booked.{IsAsBefore};
-ghost use Rattle.seat_steps.specs.Floors.{Stands};
-ghost use Rattle.volap_cell.specs.ImageKinds.{IsFree};
-ghost use Rattle.volap_cell.specs.Values.{actor_of};
+ghost use Rattle.part_steps.specs.core_image.specs.Told.{refused_by, unknown_by};
+ghost use Rattle.part_steps.specs.seat_steps.specs.Booked.{IsAsBefore};
+ghost use Rattle.part_steps.specs.seat_steps.specs.Floors.{Stands};
+ghost use Rattle.part_steps.specs.volap_cell.specs.ImageKinds.{IsFree};
+ghost use Rattle.part_steps.specs.volap_cell.specs.Values.{actor_of};
 
 use crate::books::{DESK, books_of, take_image, take_image_alone};
 use crate::desks::is_empty_at;
-use core_steps::{BeginStep, NoteStep};
 use dim_hierarchy::{Coord, Filter, Measures};
-use seat_steps::{Floor, Player, give_all, make_booked, take_first};
+use part_steps::core_steps::{BeginStep, NoteStep};
+use part_steps::seat_steps::{Floor, Player, give_all, make_booked, take_first};
+use part_steps::volap_cell::there;
 use std::alloc::{AllocError, Global};
 use std::sync::Wait;
-use volap_cell::there;
 
 /// The session begins an insert of a row at this coordinate, at its server. The answer is the position of the event.
 pub fn begin_insert<R: Wait>(

@@ -1,16 +1,16 @@
 //! The desk and the image of the server of a session.
 ghost use Rattle.std.specs.Prelude.{ℕ, ◌≡◌, ◌<◌, ◌^◌, [], ◌∷◌, None, Some};
 ghost use Rattle.session_steps.specs.Books.{AreBooksOf};
-ghost use Rattle.seat_steps.specs.Floors.{IsSeated, Stands};
-ghost use Rattle.seat_steps.specs.Takes.{Takes};
-ghost use Rattle.volap_cell.specs.Values.{actor_of};
-ghost use Rattle.volap_cell.specs.declared.role.Role.TheVariants.{Session};
+ghost use Rattle.part_steps.specs.seat_steps.specs.Floors.{IsSeated, Stands};
+ghost use Rattle.part_steps.specs.seat_steps.specs.Takes.{Takes};
+ghost use Rattle.part_steps.specs.volap_cell.specs.Values.{actor_of};
+ghost use Rattle.part_steps.specs.volap_cell.specs.declared.role.Role.TheVariants.{Session};
 
-use core_steps::{desk_place, image_place};
+use part_steps::core_steps::{desk_place, image_place};
+use part_steps::seat_steps::{Floor, Player, take, take_first};
+use part_steps::volap_cell::Role;
 use row_ledger::Use;
-use seat_steps::{Floor, Player, take, take_first};
 use std::sync::Wait;
-use volap_cell::Role;
 
 /// The ranks that are told for a desk and an image.
 pub(crate) const DESK: u8 = 4;

@@ -1,15 +1,15 @@
 //! A session comes to the desk of its server, and leaves it; and an actor gives back what is left in its purse.
 ghost use Rattle.std.specs.Prelude.{◌≡◌, ◌^◌, ◌<◌, [], true, false};
 ghost use Rattle.session_steps.specs.Coming.{HasCome, HasEmptied, HasLeft, IsAtNothing};
-ghost use Rattle.seat_steps.specs.Floors.{Stands};
-ghost use Rattle.volap_cell.specs.ImageKinds.{IsFree};
-ghost use Rattle.volap_cell.specs.Setting.{actor_count};
-ghost use Rattle.volap_cell.specs.Values.{actor_of};
+ghost use Rattle.part_steps.specs.seat_steps.specs.Floors.{Stands};
+ghost use Rattle.part_steps.specs.volap_cell.specs.ImageKinds.{IsFree};
+ghost use Rattle.part_steps.specs.volap_cell.specs.Setting.{actor_count};
+ghost use Rattle.part_steps.specs.volap_cell.specs.Values.{actor_of};
 
 use crate::books::{DESK, books_of};
-use core_due::{is_spent, parts_prepared};
-use core_steps::{CountStep, TreeStep, stock_place};
-use seat_steps::{Floor, Player, make, take_first};
+use part_steps::core_due::{is_spent, parts_prepared};
+use part_steps::core_steps::{CountStep, TreeStep, stock_place};
+use part_steps::seat_steps::{Floor, Player, make, take_first};
 use std::alloc::Global;
 use std::sync::Wait;
 

@@ -1,29 +1,29 @@
 //! The step that is due for the insert or the query that a session has open, while it is at no part.
 ghost use Rattle.std.specs.Prelude.{ℕ, ◌≡◌, ◌<◌, ◌∷◌, [], None, OnErr, OnOk, Some};
-ghost use Rattle.core_steps.specs.Books.{book_asks, book_places};
-ghost use Rattle.core_steps.specs.Parts.{part_asks, part_places};
-ghost use Rattle.core_steps.specs.declared.books.BookStep.TheVariants.{Answer, Route};
-ghost use Rattle.core_steps.specs.declared.parts.PartStep.TheVariants.{TakePart};
+ghost use Rattle.part_steps.specs.core_steps.specs.Books.{book_asks, book_places};
+ghost use Rattle.part_steps.specs.core_steps.specs.Parts.{part_asks, part_places};
+ghost use Rattle.part_steps.specs.core_steps.specs.declared.books.BookStep.TheVariants.{Answer, Route};
+ghost use Rattle.part_steps.specs.core_steps.specs.declared.parts.PartStep.TheVariants.{TakePart};
 ghost use Rattle.session_steps.specs.Books.{AreBooksOf, EndsAtDesk, IsDueBy, IsEndBy, fails_by};
 ghost use Rattle.session_steps.specs.Commands.{ComesTo, HasOpen, IsStillOpen};
-ghost use Rattle.seat_steps.specs.Booked.{IsAsBefore, IsDue, IsUnchanged, IsUpToLedger};
-ghost use Rattle.seat_steps.specs.Floors.{IsSeated, Stands};
+ghost use Rattle.part_steps.specs.seat_steps.specs.Booked.{IsAsBefore, IsDue, IsUnchanged, IsUpToLedger};
+ghost use Rattle.part_steps.specs.seat_steps.specs.Floors.{IsSeated, Stands};
 ghost use Rattle.part_steps.specs.Parts.{IsUnread};
-ghost use Rattle.seat_steps.specs.declared.floor.Player.{Player};
-ghost use Rattle.volap_cell.specs.ImageKinds.{doing};
-ghost use Rattle.volap_cell.specs.Values.{actor_of};
-ghost use Rattle.volap_cell.specs.declared.command.Work.{Work};
-ghost use Rattle.volap_cell.specs.declared.command.Work.TheVariants.{Query};
+ghost use Rattle.part_steps.specs.seat_steps.specs.declared.floor.Player.{Player};
+ghost use Rattle.part_steps.specs.volap_cell.specs.ImageKinds.{doing};
+ghost use Rattle.part_steps.specs.volap_cell.specs.Values.{actor_of};
+ghost use Rattle.part_steps.specs.volap_cell.specs.declared.command.Work.{Work};
+ghost use Rattle.part_steps.specs.volap_cell.specs.declared.command.Work.TheVariants.{Query};
 
 use crate::books::{DESK, books_of, take_image, take_image_alone};
 use crate::desks::{due_at, is_empty_at, sum_at};
-use core_due::{WorkDue, works_can_be_made};
-use core_steps::{BookStep, PartStep};
 use measure_agg::Agg;
-use seat_steps::{Floor, Player, give_all, make, make_booked, take_first};
+use part_steps::core_due::{WorkDue, works_can_be_made};
+use part_steps::core_steps::{BookStep, PartStep};
+use part_steps::seat_steps::{Floor, Player, give_all, make, make_booked, take_first};
+use part_steps::volap_cell::{Command, Work, there};
 use std::alloc::{AllocError, Global};
 use std::sync::Wait;
-use volap_cell::{Command, Work, there};
 
 /// How a command of a session ended.
 #[derive(Clone, Copy)]

@@ -1,24 +1,24 @@
 //! What is seen on a desk that a session holds.
 ghost use Rattle.std.specs.Prelude.{◌≡◌, Some};
 ghost use mathlib.Core.Option.{some};
-ghost use Rattle.core_due.specs.Due.{is_empty_desk};
-ghost use Rattle.core_due.specs.Works.{parts_due};
-ghost use Rattle.core_image.specs.Asking.{IsSum};
+ghost use Rattle.part_steps.specs.core_due.specs.Due.{is_empty_desk};
+ghost use Rattle.part_steps.specs.core_due.specs.Works.{parts_due};
+ghost use Rattle.part_steps.specs.core_image.specs.Asking.{IsSum};
 ghost use Rattle.query_router.specs.Desk.{verdict_of};
 ghost use Rattle.query_router.specs.declared.part.Verdict.TheVariants.{Sum};
 ghost use Rattle.session_steps.specs.Books.{CanSum, SumsTo};
-ghost use Rattle.seat_steps.specs.Floors.{IsSeated};
-ghost use Rattle.seat_steps.specs.Looks.{Sees};
+ghost use Rattle.part_steps.specs.seat_steps.specs.Floors.{IsSeated};
+ghost use Rattle.part_steps.specs.seat_steps.specs.Looks.{Sees};
 ghost use Rattle.turn_table.specs.Numbered.{value_of};
-ghost use Rattle.volap_cell.specs.Cells.{cell_of, desk_in};
-ghost use Rattle.volap_cell.specs.declared.cell.Cell.{Cell};
+ghost use Rattle.part_steps.specs.volap_cell.specs.Cells.{cell_of, desk_in};
+ghost use Rattle.part_steps.specs.volap_cell.specs.declared.cell.Cell.{Cell};
 
-use core_due::{WorkDue, parts_due};
-use core_steps::BookStep;
 use measure_agg::Agg;
+use part_steps::core_due::{WorkDue, parts_due};
+use part_steps::core_steps::BookStep;
+use part_steps::seat_steps::{Floor, Player};
+use part_steps::volap_cell::{Cell, there};
 use query_router::Verdict;
-use seat_steps::{Floor, Player};
-use volap_cell::{Cell, there};
 
 /// Whether no command stands on the desk in a cell.
 fn is_empty_in(cell: &Cell) -> bool

@@ -1,19 +1,19 @@
 //! How much of the history there is.
 ghost use Rattle.std.specs.Prelude.{◌≡◌, length};
 ghost use mathlib.Core.Option.{some};
-ghost use Rattle.seat_steps.specs.Booked.{IsAsBefore};
-ghost use Rattle.seat_steps.specs.Floors.{IsSeated, Stands};
-ghost use Rattle.seat_steps.specs.Looks.{Sees};
+ghost use Rattle.part_steps.specs.seat_steps.specs.Booked.{IsAsBefore};
+ghost use Rattle.part_steps.specs.seat_steps.specs.Floors.{IsSeated, Stands};
+ghost use Rattle.part_steps.specs.seat_steps.specs.Looks.{Sees};
 ghost use Rattle.turn_table.specs.Numbered.{value_of};
-ghost use Rattle.volap_cell.specs.Cells.{cell_of, ledger_in};
-ghost use Rattle.volap_cell.specs.ImageKinds.{IsFree};
-ghost use Rattle.volap_cell.specs.Values.{actor_of};
-ghost use Rattle.volap_cell.specs.declared.cell.Cell.{Cell};
+ghost use Rattle.part_steps.specs.volap_cell.specs.Cells.{cell_of, ledger_in};
+ghost use Rattle.part_steps.specs.volap_cell.specs.ImageKinds.{IsFree};
+ghost use Rattle.part_steps.specs.volap_cell.specs.Values.{actor_of};
+ghost use Rattle.part_steps.specs.volap_cell.specs.declared.cell.Cell.{Cell};
 
-use core_steps::ledger_place;
-use seat_steps::{Floor, LEDGER, Player, give_all, take_first};
+use part_steps::core_steps::ledger_place;
+use part_steps::seat_steps::{Floor, LEDGER, Player, give_all, take_first};
+use part_steps::volap_cell::Cell;
 use std::sync::Wait;
-use volap_cell::Cell;
 
 /// An actor that does nothing waits for the turn of the ledger and sees the whole history, and tells how many events there are. Takes no memory.
 pub fn hear<R: Wait>(rt: &R, floor: &Floor, player: &mut Player) -> u64

@@ -14,3 +14,7 @@ pub use coming::{come, empty_purse, leave};
 pub use commands::{End, Next, go_on_with_command};
 pub use hears::hear;
 pub use visits::{noted_by, reserve_notes, take_waiting, try_visit};
+
+// What stands below is passed on.
+pub use part_steps;
+pub use part_steps::{core_due, core_steps, seat_steps, volap_cell, volap_turns};

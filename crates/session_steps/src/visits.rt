@@ -1,28 +1,28 @@
 //! A query that visits a block without waiting, and one that takes the parts that wait on its desk.
 ghost use Rattle.std.specs.Prelude.{ℕ, ◌≡◌, ◌≢◌, ◌≤◌, None, Some, IfErr, OnErr, OnOk};
 ghost use Rattle.std.specs.Bool.{OnFalse, OnTrue};
-ghost use Rattle.core_tree.specs.ReadDue.{room_in_task, room_to_note};
+ghost use Rattle.part_steps.specs.core_tree.specs.ReadDue.{room_in_task, room_to_note};
 ghost use Rattle.session_steps.specs.Commands.{HasOpen, IsStillOpen};
-ghost use Rattle.seat_steps.specs.Booked.{IsAsBefore};
-ghost use Rattle.seat_steps.specs.Floors.{Stands};
-ghost use Rattle.seat_steps.specs.Takes.{WasRefused};
+ghost use Rattle.part_steps.specs.seat_steps.specs.Booked.{IsAsBefore};
+ghost use Rattle.part_steps.specs.seat_steps.specs.Floors.{Stands};
+ghost use Rattle.part_steps.specs.seat_steps.specs.Takes.{WasRefused};
 ghost use Rattle.part_steps.specs.Parts.{IsUnread};
 ghost use Rattle.part_steps.specs.Reads.{HasRoom, HasRoomIn, noted_by};
 ghost use Rattle.session_steps.specs.Visits.{HasVisited};
-ghost use Rattle.volap_cell.specs.ImageKinds.{doing};
-ghost use Rattle.volap_cell.specs.Values.{actor_of, task_of};
-ghost use Rattle.volap_cell.specs.declared.command.Work.TheVariants.{Query};
+ghost use Rattle.part_steps.specs.volap_cell.specs.ImageKinds.{doing};
+ghost use Rattle.part_steps.specs.volap_cell.specs.Values.{actor_of, task_of};
+ghost use Rattle.part_steps.specs.volap_cell.specs.declared.command.Work.TheVariants.{Query};
 
 use crate::books::books_of;
 use crate::commands::{see_desk, take_part};
-use core_due::{WorkDue, last_noted};
-use core_steps::{BookStep, TreeStep};
-use link_descent::MOST_NOTED;
-use seat_steps::{Floor, Player, give_all, make, try_take};
+use part_steps::core_due::{WorkDue, last_noted};
+use part_steps::core_steps::{BookStep, TreeStep};
+use part_steps::link_descent::MOST_NOTED;
+use part_steps::seat_steps::{Floor, Player, give_all, make, try_take};
+use part_steps::volap_cell::{Actor, Errand, Task};
 use std::alloc::{AllocError, Global};
 use std::sync::Wait;
 use turn_table::Busy;
-use volap_cell::{Actor, Errand, Task};
 
 /// The block that the actor's query noted last, if there is one.
 pub fn noted_by(actor: &Actor) -> Option<u32>

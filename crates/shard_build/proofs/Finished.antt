@@ -3,8 +3,8 @@ use Rattle.std.proofs.{Common.{◌≡◌, ℕ, ◌+◌, ◌≤◌, List, [], ◌
 use Rattle.std.specs.Prelude.{sum_by, IsPermutation}
 use Rattle.dim_hierarchy.specs.{Dimension.Dimension, Rows.IsRowOf, declared.row.Row.Row}
 use Rattle.dc_node.specs.declared.entry.Entry.{Entry}
-use Rattle.shard_store.specs.Gate.{root_entry}
-use Rattle.link_descent.specs.{Descend.IsEntryOf, declared.entered.Fresh.Fresh}
+use Rattle.tree_shape.specs.shard_store.specs.Gate.{root_entry}
+use Rattle.tree_shape.specs.link_descent.specs.{Descend.IsEntryOf, declared.entered.Fresh.Fresh}
 use Rattle.list_words.specs.Counts.{same, times}
 use Rattle.list_words.proofs.Times.{same_is}
 use Rattle.tree_shape.specs.{Forest.{AfterBuilding, AreInCells, AreRowsOf, IsForest, TreeLaw, filled_cells}, Shape.{Table, TreeCells, numbers}}

@@ -3,7 +3,7 @@ use Rattle.std.proofs.{Common.{◌≡◌, ℕ, ◌+◌, ◌^◌, ◌<◌, ◌≤
 use Rattle.std.specs.{List.AllZip, Prelude.{None, sum_by, All}}
 use Rattle.dim_hierarchy.specs.{Dimension.Dimension, Rows.IsRowOf, declared.row.Row.Row}
 use Rattle.dc_node.specs.{Block.{is_leaf, rows_in, size}, Summary.IsSummary, declared.block.Block.Block, declared.block.Body.Body, declared.block.Body.TheVariants.{Rows, Entries}, declared.entry.Entry.Entry}
-use Rattle.link_descent.specs.{Descend.IsEntryOf, declared.entered.Fresh.Fresh}
+use Rattle.tree_shape.specs.link_descent.specs.{Descend.IsEntryOf, declared.entered.Fresh.Fresh}
 use Rattle.list_words.specs.Counts.{Each, times}
 use Rattle.list_words.proofs.{Each.{each-all, each-left, each-right}, Times.times-append}
 use Rattle.tree_shape.specs.{Forest.{AreInCells, AreRowsOf, DirectoriesLaw, IsForest, LeavesLaw, all_entries, all_rows, filled_cells}, Shape.numbers, Trees.limit}

@@ -2,7 +2,7 @@
 use Rattle.std.proofs.{Common.{◌≡◌, ℕ, true, false, List, ◌++◌, length, drop, sym, subst, arith, length-append}, lemmas.List.{drop_all, drop-append-le, take-append-le}, lemmas.List.Elements.{All-append, All-nil, All-take}}
 use Rattle.std.specs.Prelude.{All}
 use Rattle.dc_node.specs.Block.{is_leaf}
-use Rattle.link_descent.specs.declared.entered.Fresh.{Fresh}
+use Rattle.tree_shape.specs.link_descent.specs.declared.entered.Fresh.{Fresh}
 use Rattle.shard_build.specs.Building.{AreLeavesFirst}
 
 abbrev leaf : Fresh → Type 0

@@ -4,7 +4,7 @@ use Rattle.std.specs.{List.AllZip, Prelude.{All, Contains}}
 use Rattle.dim_hierarchy.specs.Dimension.{Dimension}
 use Rattle.dc_node.specs.{Block.{entries_in, is_leaf}, declared.entry.Entry.Entry}
 use Rattle.cell_stock.specs.declared.purse.Spare.{Spare}
-use Rattle.link_descent.specs.declared.entered.Fresh.{Fresh}
+use Rattle.tree_shape.specs.link_descent.specs.declared.entered.Fresh.{Fresh}
 use Rattle.tree_shape.specs.Forest.{all_entries}
 use Rattle.shard_build.specs.Building.{AreLed, IsEntryTo, spare_of, spare_to}
 use Rattle.shard_build.proofs.Summed.{leaves-entries}

@@ -2,7 +2,7 @@
 use Rattle.std.proofs.{Common.{◌≡◌, ℕ, ◌-◌, ◌<◌, ◌≤◌, List, [], ◌∷◌, ◌++◌, length, take, drop, sym, ap, ◌∙◌, refl, subst, inl, inr, arith, length-append, length-drop, append_assoc}, lemmas.Bool.cases_lt, lemmas.List.{append-nil, take_at, drop_at}}
 use Rattle.std.specs.{Int.div_ceil, List.AllZip}
 use Rattle.dim_hierarchy.specs.Dimension.{Dimension}
-use Rattle.link_descent.specs.declared.entered.Fresh.{Fresh}
+use Rattle.tree_shape.specs.link_descent.specs.declared.entered.Fresh.{Fresh}
 use Rattle.shard_plan.specs.Building.{leaves_for, levels_of, parent_nodes}
 use Rattle.tree_shape.specs.Forest.{all_entries}
 use Rattle.shard_build.specs.{Building.IsEntryTo, Built.AreLevels}

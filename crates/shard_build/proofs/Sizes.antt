@@ -2,7 +2,7 @@
 use Rattle.std.proofs.{Common.{◌≡◌, ℕ, zero, suc, ◌-◌, ◌*◌, ◌<◌, ◌≤◌, List, [], ◌∷◌, ◌++◌, length, refl, sym, ap, ◌∙◌, arith, length-append}, Math.Nat.mul-suc, lemmas.Bool.{le-leb, lt-leb}, lemmas.List.{append-nil, append_assoc, map-append}}
 use Rattle.std.specs.{Int.div_ceil, List.flat_map, Prelude.min}
 use Rattle.dc_node.specs.Block.{size}
-use Rattle.link_descent.specs.declared.entered.Fresh.{Fresh}
+use Rattle.tree_shape.specs.link_descent.specs.declared.entered.Fresh.{Fresh}
 use Rattle.shard_plan.specs.Building.{leaf_rows, leaves_for, parent_nodes}
 use Rattle.shard_build.specs.Sizes.{built_sizes, parent_sizes, put_by, sizes_of}
 use Rattle.shard_build.proofs.Counts.{ParentsLaw, RootLaw, levels_from}

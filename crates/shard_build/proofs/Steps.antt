@@ -4,7 +4,7 @@ use Rattle.std.specs.{List.AllZip, Prelude.{min, None, reverse}}
 use Rattle.dim_hierarchy.specs.{Dimension.Dimension, declared.row.Row.Row}
 use Rattle.dc_node.specs.{Block.{rows_in, entries_in, is_leaf, size}, declared.entry.Entry.Entry}
 use Rattle.cell_stock.specs.{Stock.PurseValue, declared.purse.Spare.Spare}
-use Rattle.link_descent.specs.declared.entered.Fresh.{Fresh}
+use Rattle.tree_shape.specs.link_descent.specs.declared.entered.Fresh.{Fresh}
 use Rattle.shard_plan.specs.Building.{leaf_rows, parent_nodes}
 use Rattle.tree_shape.specs.Forest.{all_entries}
 use Rattle.shard_build.specs.Building.{AddsDirectory, AddsLeaves, AddsLevel, AreLeavesOf, AreParentsOf, IsEntryTo, SiteValue, UsesUp, directory_in, leaf_in, most, spare_of}

@@ -4,12 +4,12 @@ use Rattle.std.specs.{List.AllZip, Prelude.{sum_by, All}}
 use Rattle.dim_hierarchy.specs.{Dimension.Dimension, Rows.IsRowOf, declared.row.Row.Row}
 use Rattle.describing_set.specs.Sets.{IsDescSetOf}
 use Rattle.dc_node.specs.{Block.{rows_in, entries_in, is_leaf, size, IsBodyOf}, Summary.{aggs, joined, row_count}, declared.block.Body.Body, declared.block.Body.TheVariants.{Rows, Entries}, declared.entry.Entry.Entry}
-use Rattle.link_descent.specs.declared.entered.Fresh.{Fresh}
+use Rattle.tree_shape.specs.link_descent.specs.declared.entered.Fresh.{Fresh}
 use Rattle.shard_plan.specs.Building.{leaf_rows}
 use Rattle.tree_shape.specs.Forest.{all_entries, all_rows}
 use Rattle.tree_shape.proofs.Whole.Assembled.{no-rows}
 use Rattle.shard_build.specs.Building.{AreSmall, IsCountable, IsEntryTo, most, rows_under}
-use Rattle.link_descent.proofs.Parts.{IsSummary-count}
+use Rattle.tree_shape.specs.link_descent.proofs.Parts.{IsSummary-count}
 
 abbrev pub entry_count : Entry → ℕ
 entry_count e = e.agg.count

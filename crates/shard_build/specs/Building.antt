@@ -3,7 +3,7 @@ use Rattle.std.specs.{Cmp.Lexicographic.slice_cmp, List.AllZip, Ordering.{nat_cm
 use Rattle.dim_hierarchy.specs.{Dimension.Dimension, declared.row.Row.Row}
 use Rattle.dc_node.specs.{Block.{is_leaf, size, IsBodyOf}, Summary.row_count, declared.block.Block.Block, declared.block.Body.Body, declared.block.Body.TheVariants.{Rows, Entries}, declared.entry.Entry.Entry}
 use Rattle.cell_stock.specs.{Stock.PurseValue, declared.purse.Spare.Spare}
-use Rattle.link_descent.specs.{Descend.IsEntryOf, declared.entered.Fresh.Fresh}
+use Rattle.tree_shape.specs.link_descent.specs.{Descend.IsEntryOf, declared.entered.Fresh.Fresh}
 use Rattle.shard_plan.specs.Building.{leaf_rows, parent_nodes}
 use Rattle.list_words.specs.Counts.{times}
 use Rattle.tree_shape.specs.{Forest.{AreInCells, AreRowsOf, IsForest, all_entries, all_rows, filled_cells}, Shape.{Table, numbers}}

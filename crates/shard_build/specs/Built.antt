@@ -3,8 +3,8 @@ use Rattle.std.specs.{List.AllZip, List.Sorted.IsSortedBy, Prelude.{ℕ, ◌≡�
 use Rattle.dim_hierarchy.specs.{Dimension.Dimension, declared.row.Row.Row}
 use Rattle.dc_node.specs.declared.entry.Entry.{Entry}
 use Rattle.cell_stock.specs.Stock.{PurseValue}
-use Rattle.link_descent.specs.declared.entered.Fresh.{Fresh}
-use Rattle.shard_store.specs.Gate.{root_entry}
+use Rattle.tree_shape.specs.link_descent.specs.declared.entered.Fresh.{Fresh}
+use Rattle.tree_shape.specs.shard_store.specs.Gate.{root_entry}
 use Rattle.shard_plan.specs.Building.{cells_for, leaves_for, levels_for, levels_of}
 use Rattle.list_words.specs.Counts.{times}
 use Rattle.tree_shape.specs.{Forest.{AfterBuilding, AreInCells, AreRowsOf, all_entries, all_rows, filled_cells}, Shape.{Table, TreeCells, numbers}}

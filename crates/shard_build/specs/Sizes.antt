@@ -1,7 +1,7 @@
 -- How many items each block of a built tree has.
 use Rattle.std.specs.{Int.div_ceil, List.flat_map, Prelude.{ℕ, zero, suc, ◌-◌, min, List, [], ◌∷◌, ◌++◌, map, nat_le, if◌then◌else◌}}
 use Rattle.dc_node.specs.Block.{size}
-use Rattle.link_descent.specs.declared.entered.Fresh.{Fresh}
+use Rattle.tree_shape.specs.link_descent.specs.declared.entered.Fresh.{Fresh}
 use Rattle.shard_plan.specs.Building.{leaf_rows, parent_nodes, leaves_for, levels_of}
 
 abbrev pub sizes_of : List Fresh → List ℕ

@@ -1,7 +1,7 @@
 //! A tree level by level: the leaves, then directories over each level until there is one block.
 ghost use Rattle.std.specs.Prelude.{◌≡◌, ◌+◌, ◌*◌, ◌<◌, ◌≤◌, ◌^◌, [], ◌∷◌, length, drop, All, IfOk, OnErr};
 ghost use Rattle.dim_hierarchy.specs.Rows.{IsRowOf};
-ghost use Rattle.link_descent.specs.declared.entered.Fresh as declared;
+ghost use Rattle.tree_shape.specs.link_descent.specs.declared.entered.Fresh as declared;
 ghost use Rattle.shard_plan.specs.Building.{leaves_for, cells_for, parent_nodes};
 ghost use Rattle.shard_build.specs.Building.{AddsLeaves, AddsLevel, IsCountable, IsEntryTo};
 ghost use Rattle.shard_build.specs.Built.{IsBuilt, root_of};
@@ -11,11 +11,11 @@ use crate::site::Site;
 use cell_stock::Purse;
 use describing_set::DescSet;
 use dim_hierarchy::{Hierarchy, Row};
-use link_descent::{Fresh, entry_of};
 use measure_agg::Agg;
 use shard_plan::{LEAF_ROWS, PARENT_NODES, cells_for, leaves_for, level_laws, levels_for};
 use std::alloc::{AllocError, Global};
 use tree_shape::build_laws;
+use tree_shape::link_descent::{Fresh, entry_of};
 
 /// The blocks of a built tree with their cells, and what its gate says of it: the root's cell and
 /// stamp, the height (1 where the root is a leaf), and the aggregate and the set of its rows.

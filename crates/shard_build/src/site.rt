@@ -7,9 +7,9 @@ ghost use Rattle.shard_build.specs.Building.{leaf_in, IsEntryTo, AddsDirectory, 
 use cell_stock::Spare;
 use dc_node::{Block, Body, EntryBox, LeafRows, RowBox};
 use dim_hierarchy::{Hierarchy, Row};
-use link_descent::{Fresh, entry_of};
 use std::alloc::{AllocError, Global};
 use std::marker::Model;
+use tree_shape::link_descent::{Fresh, entry_of};
 
 /// The blocks so far, and boxes for further leaves and directories, for which there is room among the
 /// blocks.

@@ -1,7 +1,7 @@
 -- What a call of a puller or of an administrator tells is that it does its command.
 use Rattle.std.proofs.{Common.{◌≡◌, ◌∙◌, ℕ, ◌+◌, Bool, true, false, List, [], ◌∷◌, length, Option, Some, inl, inr, refl, sym, ap, subst, arith, eq-eqb}, lemmas.Bool.{cases_lt, false≢true}}
 use Rattle.std.specs.{Option.option_map_or, Prelude.{IsTrue, ◌||◌, ◌==◌}}
-use Rattle.actor_run.specs.Called.{EndedCall, EndedSo, HasHeard, WasRefused}
+use Rattle.hall_hands.specs.actor_run.specs.Called.{EndedCall, EndedSo, HasHeard, WasRefused}
 use Rattle.row_ledger.proofs.{Older.has_ended-older, Positions.{before-here, event_at-here, event_at-older}}
 use Rattle.row_ledger.specs.{Classes.class_of, Past.{before, end_in, event_at, has_ended, is_kept, is_over}, Right.{IsRight, IsRightEnd, Site}, Site.site_of, declared.event.Event.Event, declared.settings.{Call.Call, How.How, Use.Use}}
 use Rattle.row_ledger.specs.declared.event.Event.TheVariants.{Called, Ended, Refused}
@@ -10,7 +10,7 @@ use Rattle.row_ledger.specs.declared.settings.How.TheVariants as how_it
 use Rattle.script_form.specs.declared.script.Command.TheVariants.{Control}
 use Rattle.script_run.proofs.{Grow.within, NextCommand.some-eq}
 use Rattle.script_run.specs.{Phases.closes, Places.session_of_call, Runs.{HasPulls, PullsAlone, can_be_refused}}
-use Rattle.seat_steps.specs.declared.floor.Floor.{Floor}
+use Rattle.hall_hands.specs.seat_steps.specs.declared.floor.Floor.{Floor}
 use Rattle.session_runs.proofs.{Pulls.{alone-then, call-within}}
 use Rattle.session_runs.specs.Sessions.{DoesCommand, EndsWithPulls}
 use Rattle.threaded_run.proofs.Done.{over-here, over-itself, unpulled}

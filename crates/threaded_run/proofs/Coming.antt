@@ -1,17 +1,17 @@
 -- How far an actor comes, with nothing begun before or behind it, and that it is a pass of the hall again.
 use Rattle.std.proofs.{Common.{◌≡◌, ◌∙◌, ℕ, suc, ◌+◌, ◌<◌, ◌≤◌, Bool, true, false, cond, List, [], ◌∷◌, Result, Ok, Err, is_err, refl, sym, ap, subst, arith, append-nil}, lemmas.Bool.ne_eqb}
 use Rattle.std.specs.Prelude.{◌==◌, OnErr, OnOk}
-use Rattle.actor_run.specs.{Passes.{IsPass, IsPassOf, PassValue, pass_of}, Sessions.{BecomesPass, SessionValue, session_of}}
+use Rattle.hall_hands.specs.actor_run.specs.{Passes.{IsPass, IsPassOf, PassValue, pass_of}, Sessions.{BecomesPass, SessionValue, session_of}}
 use Rattle.hall_admin.specs.Callers.{BecomesCaller, CallerValue, caller_of}
 use Rattle.hall_hands.specs.Hands.{BecomesHand, HandValue, HasServedAll}
 use Rattle.row_ledger.specs.{Classes.class_of, declared.class.Class.Class, declared.class.Class.TheVariants.Sync, declared.event.Event.Event, declared.settings.Use.Use}
 use Rattle.script_form.specs.declared.script.{Command.Command, Command.TheVariants.{Control, Insert, Query}}
 use Rattle.script_run.specs.Places.{begins_of, session_of as session_of_command, session_of_call}
-use Rattle.seat_steps.specs.declared.floor.{Floor.Floor, Player.Player}
+use Rattle.hall_hands.specs.seat_steps.specs.declared.floor.{Floor.Floor, Player.Player}
 use Rattle.session_runs.specs.Sessions.{BeginsNothing, DoesInTurn, stream_of}
 use Rattle.threaded_run.proofs.Turns.{does-behind, does-on}
 use Rattle.threaded_run.specs.{Jobs.{HasCome, IsBack}, Streams.{AllFit, FitsFloor}}
-use Rattle.volap_cell.specs.declared.role.Role.{Role}
+use Rattle.script_roles.specs.volap_cell.specs.declared.role.Role.{Role}
 
 module _ (f : Floor) (n : ℕ) (commands : List Command) (a b c : List Event) where
   pub came-behind : (stopped : Bool) → BeginsNothing n a b → HasCome stopped f n commands b c → HasCome stopped f n commands a c

@@ -1,10 +1,10 @@
 -- What a session's call tells is that it does its command.
 use Rattle.std.proofs.Common.{◌≡◌, ◌∙◌, ℕ, Bool, true, false, List, ◌∷◌, Option, Some, None, IfSome, inl, inr, refl, sym, ap, subst, eq-eqb}
 use Rattle.std.specs.{Option.option_map_or, Prelude.{IsTrue, ◌||◌, ◌==◌, option_and_then}}
-use Rattle.actor_run.specs.Sessions.{Began, EndedInsert, EndedQuery, GoesOn, IsNewest, SessionValue}
-use Rattle.actor_run.specs.declared.session.{Asked.Asked, Inserted.Inserted}
-use Rattle.actor_run.specs.declared.session.Asked.TheVariants as asked
-use Rattle.actor_run.specs.declared.session.Inserted.TheVariants as inserted
+use Rattle.hall_hands.specs.actor_run.specs.Sessions.{Began, EndedInsert, EndedQuery, GoesOn, IsNewest, SessionValue}
+use Rattle.hall_hands.specs.actor_run.specs.declared.session.{Asked.Asked, Inserted.Inserted}
+use Rattle.hall_hands.specs.actor_run.specs.declared.session.Asked.TheVariants as asked
+use Rattle.hall_hands.specs.actor_run.specs.declared.session.Inserted.TheVariants as inserted
 use Rattle.row_ledger.proofs.Before.{before-at}
 use Rattle.row_ledger.specs.{Classes.class_of, Settled.pulls_since, Past.{before, call_at, call_in, end_in, ends_itself, event_at, has_ended, is_over}, declared.event.Event.Event, declared.settings.Use.Use}
 use Rattle.row_ledger.specs.declared.event.Event.TheVariants.{Acked, Answered, Asked as AskedEvent, Begun, Called, Failed, Refused, Unknown}
@@ -12,7 +12,7 @@ use Rattle.script_form.specs.declared.script.{Command.Command, Command.TheVarian
 use Rattle.script_run.specs.Runs.{ArePulls, Begins}
 use Rattle.session_runs.proofs.Pulls.{is-called}
 use Rattle.session_runs.specs.Sessions.{DoesCommand, EndsWithPulls}
-use Rattle.session_steps.specs.Begins.{row_at}
+use Rattle.hall_hands.specs.session_steps.specs.Begins.{row_at}
 
 -- What is over.
 

@@ -4,10 +4,10 @@ use Rattle.dim_hierarchy.specs.Dimension.{Dimension}
 use Rattle.row_ledger.specs.declared.{event.Event.Event, settings.Use.Use}
 use Rattle.script_form.specs.declared.script.Command.{Command}
 use Rattle.script_run.specs.{Phases.closes, Streams.NoneCloses}
-use Rattle.seat_steps.specs.declared.floor.Floor.{Floor}
+use Rattle.hall_hands.specs.seat_steps.specs.declared.floor.Floor.{Floor}
 use Rattle.session_runs.proofs.Later.{later-then}
 use Rattle.session_runs.specs.Sessions.{BeginsNothing, DoesPhase, EachDoes, EachDoesFirst}
-use Rattle.actor_run.specs.Passes.{PassesValue}
+use Rattle.hall_hands.specs.actor_run.specs.Passes.{PassesValue}
 use Rattle.threaded_run.proofs.{Coming.came-on, Passing.came-weaker}
 use Rattle.threaded_run.specs.{Phases.{AreBack, StopsInPhase}, Streams.{AllFit, ClosesLast, NoneClosesAt}}
 

@@ -1,16 +1,16 @@
 -- A hall for a script's run opens, and its passes are those of its phases.
 use Rattle.std.proofs.{Common.{◌≡◌, ◌∙◌, ℕ, zero, suc, ◌+◌, ◌<◌, Bool, true, List, [], ◌∷◌, ◌++◌, length, Option, Some, None, slice_get, refl, sym, ap, subst, arith}, lemmas.{Bool.or_right, List.length-append, Option.slice_get_within}}
 use Rattle.std.specs.{List.list_any, Prelude.{◌||◌, if◌then◌else◌}}
-use Rattle.actor_run.specs.{Halls.{HasOpened, IsHallFor, is_admin, own_role}, Passes.PassesValue}
+use Rattle.hall_hands.specs.actor_run.specs.{Halls.{HasOpened, IsHallFor, is_admin, own_role}, Passes.PassesValue}
 use Rattle.dim_hierarchy.specs.Dimension.{Dimension, IsHierarchy}
 use Rattle.row_ledger.specs.declared.settings.Use.{Use}
 use Rattle.script_form.specs.Fits.{AreSettings}
 use Rattle.script_roles.specs.Roles.{IsNumbered, roles_of}
 use Rattle.script_roles.proofs.Roles.{admin-at, can-open, few-in-script, numbered, opens-with}
 use Rattle.script_run.specs.Between.{IsThrough, OpeningLaw}
-use Rattle.seat_steps.specs.declared.floor.Floor.{Floor}
+use Rattle.hall_hands.specs.seat_steps.specs.declared.floor.Floor.{Floor}
 use Rattle.threaded_run.specs.Phases.{ArePhased}
-use Rattle.volap_cell.specs.{Setting.{Setting, actor_count}, declared.role.Role.Role, declared.role.Role.TheVariants.{Admin, Puller}}
+use Rattle.script_roles.specs.volap_cell.specs.{Setting.{Setting, actor_count}, declared.role.Role.Role, declared.role.Role.TheVariants.{Admin, Puller}}
 
 -- Lists.
 

@@ -1,18 +1,18 @@
 -- The passes of a phase, as they are taken out one by one, and put back.
 use Rattle.std.proofs.{Common.{◌≡◌, ◌≢◌, ◌∙◌, ℕ, zero, suc, ◌+◌, ◌<◌, ◌≤◌, Bool, true, false, cond, List, [], ◌∷◌, ◌++◌, length, count_by, set, slice_get, Some, inl, inr, refl, sym, ap, subst, arith, append-nil, length-append, eq-eqb}, lemmas.Bool.{cases_lt, false≢true, ne_eqb}, lemmas.List.Sums.sum_by-cons, lemmas.Option.slice_get_within}
 use Rattle.std.specs.Prelude.{◌==◌}
-use Rattle.actor_run.specs.Passes.{HasGiven, HasTaken, IsOut, IsPassesOf, PassValue, PassesValue}
+use Rattle.hall_hands.specs.actor_run.specs.Passes.{HasGiven, HasTaken, IsOut, IsPassesOf, PassValue, PassesValue}
 use Rattle.row_ledger.specs.declared.event.Event.{Event}
 use Rattle.script_form.specs.declared.script.Command.{Command}
 use Rattle.script_run.proofs.NextCommand.{get-middle}
 use Rattle.script_run.specs.Places.{begins_of}
-use Rattle.seat_steps.specs.declared.floor.Floor.{Floor}
+use Rattle.hall_hands.specs.seat_steps.specs.declared.floor.Floor.{Floor}
 use Rattle.session_runs.proofs.Later.{later-then}
 use Rattle.session_runs.specs.Sessions.{BeginsNothing, DoesFirst, DoesInTurn, stream_of}
 use Rattle.threaded_run.proofs.{Coming.{came-on, no-stream}, Turns.nothing-then}
 use Rattle.script_roles.specs.Roles.{IsNumbered}
 use Rattle.threaded_run.specs.{Jobs.{HasCome, IsJobReady}, Phases.{AreBack, ArePhased, HasGivenJob, HasGivenSome, HasTakenAll, HasTakenSome}, Streams.AllFit, declared.threads.Job.Job}
-use Rattle.volap_cell.specs.{Setting.{Setting, actor_count}, declared.role.{Role.Role, Role.TheVariants.Puller}}
+use Rattle.script_roles.specs.volap_cell.specs.{Setting.{Setting, actor_count}, declared.role.{Role.Role, Role.TheVariants.Puller}}
 
 -- Out.
 

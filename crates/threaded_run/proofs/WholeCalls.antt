@@ -1,8 +1,8 @@
 -- The command that closes a phase, with nothing beside it.
 use Rattle.std.proofs.{Common.{◌≡◌, ◌≢◌, ◌∙◌, ℕ, zero, suc, ◌+◌, ◌<◌, ◌≤◌, Bool, true, false, cond, List, [], ◌∷◌, ◌++◌, length, take, slice_get, Some, Result, Ok, Err, IfSome, inl, inr, refl, sym, ap, subst, arith}, lemmas.Bool.{cases_lt, false≢true, ne_eqb}, lemmas.Option.slice_get_within}
 use Rattle.std.specs.Prelude.{◌==◌, IsTrue, OnErr, OnOk, option_and_then}
-use Rattle.actor_run.specs.{Passes.{IsAdminOf, PassesValue}, Wholes.{AddsNothing, AreToldBy, EndsIn, HaveGoneOn, HaveSettledSo}}
-use Rattle.core_told.proofs.Pulled.{pulled-more, pulled-none, settle-next, twice-length}
+use Rattle.hall_hands.specs.actor_run.specs.{Passes.{IsAdminOf, PassesValue}, Wholes.{AddsNothing, AreToldBy, EndsIn, HaveGoneOn, HaveSettledSo}}
+use Rattle.hall_hands.specs.core_told.proofs.Pulled.{pulled-more, pulled-none, settle-next, twice-length}
 use Rattle.row_ledger.specs.{Classes.class_of, Past.{call_at, call_in, event_at, is_over}, Right.IsRight, Settled.{pulls_since, settle_pulls}, Site.site_of, declared.class.Subject.Subject, declared.event.Event.Event, declared.page.Page.Page, declared.settings.{Call.Call, How.How, Use.Use}}
 use Rattle.row_ledger.specs.declared.class.Class.TheVariants as class
 use Rattle.row_ledger.specs.declared.event.Event.TheVariants.{Called, Ended, Shown, Synced}
@@ -11,18 +11,18 @@ use Rattle.row_ledger.specs.declared.settings.How.TheVariants as how_it
 use Rattle.script_form.specs.declared.script.{Command.Command, Command.TheVariants.Control}
 use Rattle.script_run.proofs.{Begin.begins-own, PlaceFacts.{begins_of-here, begins_of-other}}
 use Rattle.script_run.specs.{Phases.is_closing, Places.{begins_of, session_of, session_of_call}, Runs.{ArePulls, HasPulls, PullsAlone, is_pulling}}
-use Rattle.seat_steps.specs.declared.floor.Floor.{Floor}
+use Rattle.hall_hands.specs.seat_steps.specs.declared.floor.Floor.{Floor}
 use Rattle.session_runs.proofs.Pulls.{plain-pulls}
 use Rattle.session_runs.specs.Sessions.{BeginsNothing, DoesCommand, DoesInTurn, EachDoes, EndsWithPulls, stream_of}
-use Rattle.session_steps.proofs.Grown.{at-pushed}
+use Rattle.hall_hands.specs.session_steps.proofs.Grown.{at-pushed}
 use Rattle.threaded_run.proofs.{Called.{admin-calls, ends-pulled}, Done.over-here, Turns.does-own}
 use Rattle.script_roles.specs.Roles.{IsNumbered}
 use Rattle.threaded_run.specs.Phases.{AreBack, ArePhased}
-use Rattle.volap_cell.specs.{Setting.{Setting, actor_count}, declared.role.{Role.Role, Role.TheVariants.{Admin, Puller}}}
-use Rattle.whole_steps.specs.Settles.{ArePulls as ArePullsOfSettle}
-use Rattle.whole_steps.specs.declared.{settles.Settled.Settled, tells.Paged.Paged}
-use Rattle.whole_steps.specs.declared.settles.Settled.TheVariants as settled
-use Rattle.whole_steps.specs.declared.tells.Paged.TheVariants as paged
+use Rattle.script_roles.specs.volap_cell.specs.{Setting.{Setting, actor_count}, declared.role.{Role.Role, Role.TheVariants.{Admin, Puller}}}
+use Rattle.hall_hands.specs.whole_steps.specs.Settles.{ArePulls as ArePullsOfSettle}
+use Rattle.hall_hands.specs.whole_steps.specs.declared.{settles.Settled.Settled, tells.Paged.Paged}
+use Rattle.hall_hands.specs.whole_steps.specs.declared.settles.Settled.TheVariants as settled
+use Rattle.hall_hands.specs.whole_steps.specs.declared.tells.Paged.TheVariants as paged
 use Rattle.row_ledger.specs.declared.settings.Decline.TheVariants as decline
 
 take-whole : (l : List ℕ) (n : ℕ) → n ≡ length l → take n l ≡ l

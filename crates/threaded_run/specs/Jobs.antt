@@ -1,13 +1,13 @@
 -- An actor of a phase: what is asked of it before its thread begins, and what has become of it when that has ended.
 use Rattle.std.specs.Prelude.{ℕ, ◌≡◌, ◌+◌, ◌<◌, Bool, true, false, List, Some, slice_get}
-use Rattle.actor_run.specs.{Passes.{IsPass, IsPassOf, pass_of}, Sessions.IsSessionWith}
+use Rattle.hall_hands.specs.actor_run.specs.{Passes.{IsPass, IsPassOf, pass_of}, Sessions.IsSessionWith}
 use Rattle.row_ledger.specs.declared.event.Event.{Event}
 use Rattle.script_form.specs.declared.script.Command.{Command}
-use Rattle.seat_steps.specs.declared.floor.{Floor.Floor, Player.Player}
+use Rattle.hall_hands.specs.seat_steps.specs.declared.floor.{Floor.Floor, Player.Player}
 use Rattle.session_runs.specs.Sessions.{BeginsNothing}
 use Rattle.threaded_run.specs.{Streams.{DoesAll, DoesSome}, declared.threads.Job.Job}
-use Rattle.volap_cell.specs.{Values.actor_of, declared.role.Role.Role}
-use Rattle.volap_cell.specs.declared.role.Role.TheVariants as role
+use Rattle.script_roles.specs.volap_cell.specs.{Values.actor_of, declared.role.Role.Role}
+use Rattle.script_roles.specs.volap_cell.specs.declared.role.Role.TheVariants as role
 
 -- between two phases it is a pass of the hall
 pub record IsPassIn (f : Floor) (p : Player) : Type 0 where

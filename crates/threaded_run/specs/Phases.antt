@@ -1,17 +1,17 @@
 -- A phase whose commands go all at once: what is asked of the passes before it, and what has become of them.
 use Rattle.std.specs.Prelude.{ℕ, ◌≡◌, ◌==◌, ◌+◌, ◌<◌, ◌≤◌, Bool, List, ◌++◌, length, count_by, Some, slice_get}
-use Rattle.actor_run.specs.Passes.{AreAllIn, HasGiven, IsPassesOf, PassValue, PassesValue}
+use Rattle.hall_hands.specs.actor_run.specs.Passes.{AreAllIn, HasGiven, IsPassesOf, PassValue, PassesValue}
 use Rattle.dim_hierarchy.specs.Dimension.{Dimension}
 use Rattle.row_ledger.specs.declared.{event.Event.Event, settings.Use.Use}
 use Rattle.script_form.specs.declared.script.Command.{Command}
-use Rattle.seat_steps.specs.declared.floor.Floor.{Floor}
+use Rattle.hall_hands.specs.seat_steps.specs.declared.floor.Floor.{Floor}
 use Rattle.script_roles.specs.Roles.{IsNumbered}
 use Rattle.script_run.specs.Streams.{NoneCloses}
 use Rattle.session_runs.specs.Sessions.{BeginsNothing, EachDoesFirst}
 use Rattle.threaded_run.specs.{Jobs.{AreJobsReady, HasCome}, declared.threads.Job.Job}
 use Rattle.turn_table.specs.Numbered.{Extends}
-use Rattle.volap_cell.specs.{Setting.actor_count, declared.role.Role.Role}
-use Rattle.volap_cell.specs.declared.role.Role.TheVariants as role
+use Rattle.script_roles.specs.volap_cell.specs.{Setting.actor_count, declared.role.Role.Role}
+use Rattle.script_roles.specs.volap_cell.specs.declared.role.Role.TheVariants as role
 
 -- The passes are those of a hall with a session for each server, then a puller, an administrator, and hands; all are in. The hall's own actor
 -- is a puller.

@@ -1,10 +1,10 @@
 -- The commands of a phase, by who does them.
 use Rattle.std.specs.Prelude.{ℕ, ◌≡◌, ◌+◌, ◌<◌, true, false, List, [], length, Some, slice_get}
-use Rattle.actor_run.specs.Sessions.{SessionValue}
+use Rattle.hall_hands.specs.actor_run.specs.Sessions.{SessionValue}
 use Rattle.row_ledger.specs.declared.event.Event.{Event}
 use Rattle.script_form.specs.{Fits.Fits, declared.script.Command.Command}
 use Rattle.script_run.specs.Phases.{closes}
-use Rattle.seat_steps.specs.declared.floor.Floor.{Floor}
+use Rattle.hall_hands.specs.seat_steps.specs.declared.floor.Floor.{Floor}
 use Rattle.session_runs.specs.Sessions.{DoesFirst, DoesInTurn, stream_of}
 
 -- the command is for a server of the hall, with a name or a pick for each of its dimensions

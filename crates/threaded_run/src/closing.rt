@@ -6,11 +6,11 @@ ghost use Rattle.script_run.specs.Phases.{is_closing};
 ghost use Rattle.session_runs.specs.Sessions.{BeginsNothing, EachDoes};
 ghost use Rattle.threaded_run.specs.Phases.{AreBack, ArePhased};
 
-use actor_run::{Hall, Passes};
+use hall_hands::actor_run::{Hall, Passes};
+use hall_hands::whole_steps::{Paged, Settled};
 use row_ledger::{Call, Class};
 use std::alloc::{AllocError, Global};
 use std::sync::Wait;
-use whole_steps::{Paged, Settled};
 
 /// The administrator makes this call, which is a barrier, a settle or one for a page, and nobody else begins anything. It is an
 /// error where no memory is found for it, and nothing of it stands in the history then.

@@ -1,23 +1,23 @@
 //! What each actor does in a phase, on its thread.
 ghost use Rattle.std.specs.Prelude.{ℕ, ◌≡◌, ◌+◌, ◌<◌, List, false};
 ghost use Rattle.script_form.specs.declared.script.Command.{Command as IsCommand};
-ghost use Rattle.actor_run.specs.Sessions.{IsSessionWith};
+ghost use Rattle.hall_hands.specs.actor_run.specs.Sessions.{IsSessionWith};
 ghost use Rattle.row_ledger.specs.declared.event.Event.{Event};
 ghost use Rattle.threaded_run.specs.Jobs.{IsBack, IsPassIn, IsReady};
 ghost use Rattle.threaded_run.specs.Streams.{AllFit, NoneClosesAt};
-ghost use Rattle.volap_cell.specs.Values.{actor_of};
-ghost use Rattle.volap_cell.specs.declared.role.Role.TheVariants as is_role;
+ghost use Rattle.script_roles.specs.volap_cell.specs.Values.{actor_of};
+ghost use Rattle.script_roles.specs.volap_cell.specs.declared.role.Role.TheVariants as is_role;
 
 use crate::callers::{manage_all, pull_all};
 use crate::sessions::do_commands;
-use actor_run::{Hall, Pass, Session};
 use hall_admin::{Admin, Puller};
 use hall_hands::Hand;
+use hall_hands::actor_run::{Hall, Pass, Session};
+use hall_hands::seat_steps::Player;
 use script_form::Command;
-use seat_steps::Player;
+use script_roles::volap_cell::Role;
 use std::alloc::Global;
 use std::sync::Wait;
-use volap_cell::Role;
 use volap_io::Meet;
 
 /// The actor does what is its own of these commands, or serves for them. The answer has whether it was stopped, for want of

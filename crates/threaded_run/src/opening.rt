@@ -1,14 +1,14 @@
 //! The hall of a script's run.
 ghost use Rattle.std.specs.Prelude.{◌<◌, [], length, IfOk};
-ghost use Rattle.actor_run.specs.Halls.{HasOpened};
+ghost use Rattle.hall_hands.specs.actor_run.specs.Halls.{HasOpened};
 ghost use Rattle.dim_hierarchy.specs.Dimension.{IsHierarchy};
 ghost use Rattle.script_form.specs.Fits.{AreSettings};
 ghost use Rattle.script_roles.specs.Roles.{roles_of};
 ghost use Rattle.script_run.specs.Between.{IsThrough};
 ghost use Rattle.threaded_run.specs.Phases.{ArePhased};
 
-use actor_run::{Hall, Passes};
 use dim_hierarchy::Hierarchy;
+use hall_hands::actor_run::{Hall, Passes};
 use row_ledger::Use;
 use script_roles::script_roles;
 use script_run::laws::phases_begin_and_end;

@@ -1,7 +1,7 @@
 //! The commands of a phase, all at once.
 ghost use Rattle.std.specs.Prelude.{ℕ, ◌≡◌, ◌≤◌, false, List, [], length, vec_capacity, IfOk, OnErr, OnOk};
 ghost use Rattle.script_form.specs.declared.script.Command.{Command as IsCommand};
-ghost use Rattle.actor_run.specs.Passes.{IsPassesOf, PassesValue};
+ghost use Rattle.hall_hands.specs.actor_run.specs.Passes.{IsPassesOf, PassesValue};
 ghost use Rattle.row_ledger.specs.declared.event.Event.{Event};
 ghost use Rattle.session_runs.specs.Sessions.{EachDoes, EachDoesFirst};
 ghost use Rattle.threaded_run.specs.Jobs.{AreJobsBack, IsJobBack};
@@ -9,7 +9,7 @@ ghost use Rattle.threaded_run.specs.Phases.{AreBack, ArePhased, HasGivenJob, Has
 ghost use Rattle.threaded_run.specs.Streams.{AllFit, NoneClosesAt};
 
 use crate::threads::{Job, do_all_jobs, job_of};
-use actor_run::{Hall, Pass, Passes};
+use hall_hands::actor_run::{Hall, Pass, Passes};
 use script_form::Command;
 use std::alloc::{AllocError, Global};
 use std::sync::Wait;

@@ -1,20 +1,20 @@
 //! A thread for each actor of a phase.
 ghost use Rattle.std.specs.Prelude.{ℕ, ◌≡◌, List};
-ghost use Rattle.actor_run.specs.Passes.{IsPassOf};
+ghost use Rattle.hall_hands.specs.actor_run.specs.Passes.{IsPassOf};
 ghost use Rattle.row_ledger.specs.declared.event.Event.{Event};
 ghost use Rattle.script_roles.specs.Roles.{IsNumbered};
 ghost use Rattle.threaded_run.specs.Jobs.{AreJobsBack, AreJobsReady, IsJobBack, IsJobReady};
 ghost use Rattle.threaded_run.specs.Streams.{AllFit, NoneClosesAt};
 
 use crate::jobs::work;
-use actor_run::{Hall, Pass, Session};
+use hall_hands::actor_run::{Hall, Pass, Session};
+use hall_hands::seat_steps::Player;
 use script_form::Command;
-use seat_steps::Player;
+use script_roles::volap_cell::Role;
 use std::alloc::Global;
 use std::mem::{forget, replace};
 use std::sync::Wait;
 use std::thread::{Threads, for_each_mut};
-use volap_cell::Role;
 use volap_io::Meet;
 
 /// What goes to a thread, and comes back: an actor at its seat, how many events it has seen if it is a session's, and then

@@ -7,7 +7,7 @@ use Rattle.measure_agg.specs.{Aggregate.agg, Joining.{join, one}}
 use Rattle.describing_set.specs.{Part.part, declared.set.DescSet.DescSet}
 use Rattle.dc_node.specs.{declared.block.Body.TheVariants.{Rows, Entries}, declared.entry.Entry.Entry}
 use Rattle.cell_stock.specs.declared.purse.Spare.{Spare}
-use Rattle.shard_store.specs.{declared.gate.Gate.Gate, declared.gate.Phase.TheVariants.Open}
+use Rattle.link_descent.specs.shard_store.specs.{declared.gate.Gate.Gate, declared.gate.Phase.TheVariants.Open}
 use Rattle.tree_shape.specs.{Collecting.AfterCollecting, Example.{Sample, IsSample, HoldsFirst, IsUncut, AsksAtGate, IsAnswered, cells_at, first_agg, gate_after, leaf_of}, Shape.{Table, TreeCells, Shape, numbers}, Trees.IsTree}
 
 -- a dimension with two places

@@ -2,7 +2,7 @@
 -- and what is left of the block's own group.
 use Rattle.std.specs.Prelude.{ℕ, ◌≡◌, ◌≢◌, ◌+◌, ◌≤◌, true, cond, eqb, IsSome, List, [], ◌∷◌, ◌++◌, map}
 use Rattle.dc_node.specs.{Block.{rows_in, entries_in}, Summary.IsSummaryOf, declared.block.Body.Body, declared.todo.Item.Item}
-use Rattle.shard_store.specs.declared.gate.Gate.{Gate}
+use Rattle.link_descent.specs.shard_store.specs.declared.gate.Gate.{Gate}
 use Rattle.link_descent.specs.Visit.{noted_right}
 use Rattle.list_words.specs.Counts.{same, times}
 use Rattle.tree_shape.specs.{Queries.items_of, Shape.{Table, TreeCells, nodes, Shape, numbers}, Steps.IsIdle, Walks.{Noted, AreNoted, pending}}

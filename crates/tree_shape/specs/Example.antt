@@ -5,7 +5,7 @@ use Rattle.std.specs.Prelude.{ℕ, zero, suc, ◌≡◌, ◌≢◌, ◌+◌, ◌
 use Rattle.dim_hierarchy.specs.{Rows.IsRowOf, declared.filter.Pick.Pick, declared.row.Coord.Coord, declared.row.Row.Row}
 use Rattle.measure_agg.specs.{Aggregate.{Aggregate, agg}, Joining.{join, one}}
 use Rattle.describing_set.specs.{DescSet.IsSetOf, Sets.{IsDescSetOf, GrowsBy}, declared.set.DescSet.DescSet}
-use Rattle.shard_store.specs.{Gate.{root_entry, IsQueueOf}, declared.gate.Gate.Gate}
+use Rattle.link_descent.specs.shard_store.specs.{Gate.{root_entry, IsQueueOf}, declared.gate.Gate.Gate}
 use Rattle.link_descent.specs.{Divide.HasNoCut, Visit.is_noted}
 use Rattle.list_words.specs.Counts.{times}
 use Rattle.tree_shape.specs.{Queries.fits, Shape.{Table, TreeCells, Shape}, Steps.IsAsked, Trees.IsTree}

@@ -3,7 +3,7 @@
 use Rattle.std.specs.{List.flat_map, Prelude.{ℕ, ◌≡◌, ◌+◌, ◌≤◌, true, false, cond, List, [], ◌∷◌, ◌++◌, map, All}}
 use Rattle.dim_hierarchy.specs.{Rows.IsRowOf, declared.row.Row.Row}
 use Rattle.dc_node.specs.{Block.{rows_in, entries_in, is_leaf, size}, declared.block.Block.Block, declared.entry.Entry.Entry}
-use Rattle.shard_store.specs.Gate.{root_entry}
+use Rattle.link_descent.specs.shard_store.specs.Gate.{root_entry}
 use Rattle.link_descent.specs.{Descend.IsEntryOf, declared.entered.Fresh.Fresh}
 use Rattle.list_words.specs.Counts.{Each, same, times}
 use Rattle.tree_shape.specs.{Shape.{Table, TreeCells, node_of, Shape, numbers}, Trees.{TreeOk, EntryOk, BlockOk, IsTree, limit}}

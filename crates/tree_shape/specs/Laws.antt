@@ -6,7 +6,7 @@ use Rattle.describing_set.specs.{DescSet.IsSetOf, declared.set.DescSet.DescSet}
 use Rattle.dc_node.specs.{Block.entries_in, Summary.{IsSummaryOf, coords}, declared.block.Block.Block, declared.entry.Entry.Entry, declared.todo.Item.Item}
 use Rattle.list_words.specs.Counts.{times}
 use Rattle.cell_stock.specs.Stock.{PurseValue}
-use Rattle.shard_store.specs.Gate.{root_entry}
+use Rattle.link_descent.specs.shard_store.specs.Gate.{root_entry}
 use Rattle.link_descent.specs.declared.entered.Entered.{Entered}
 use Rattle.tree_shape.specs.{Collecting.{IsCollecting, IsReadable, Reads, AfterRead, AfterCollecting, root_item}, Queries.{IsUnfinished, fits}, Shape.{Table, Node, TreeCells, nodes, Shape}, Steps.{OpensOver, AfterOpening, LeavesTree, AfterOther, GoesDown, GoesIn, AfterStep, IsPut, AfterPut, Visits, AfterVisit, BeginsQuery, AfterBegin, CountsElsewhere, AfterAll}, Tables.{AreAlike, IsThere, IsThereOrCounted, AfterTable}, Trees.{IsTree, BlockFits, IsBelow, HasBehind, BehindFits}}
 

@@ -13,3 +13,6 @@ pub mod Example
 pub mod Cities
 pub mod HeadCuts
 pub mod PageLines
+-- What stands below is passed on.
+pub use Rattle.link_descent.specs.shard_store
+pub use Rattle.link_descent

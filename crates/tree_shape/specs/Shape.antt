@@ -2,7 +2,7 @@
 use Rattle.std.specs.Prelude.{ℕ, ◌≡◌, ◌<◌, ◌≤◌, Bool, true, false, cond, eqb, List, [], ◌∷◌, Option, None, map}
 use Rattle.dim_hierarchy.specs.{Dimension.Dimension, declared.row.Row.Row}
 use Rattle.dc_node.specs.{Block.{rows_in, entries_in}, declared.block.Block.Block, declared.entry.Entry.Entry}
-use Rattle.shard_store.specs.{Gate.root_entry, declared.gate.Gate.Gate}
+use Rattle.link_descent.specs.shard_store.specs.{Gate.root_entry, declared.gate.Gate.Gate}
 
 -- the hierarchy, and the row that has a number
 pub record Table : Type 0 where

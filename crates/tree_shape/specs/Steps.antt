@@ -5,7 +5,7 @@ use Rattle.describing_set.specs.DescSet.{IsSetOf}
 use Rattle.measure_agg.specs.{Aggregate.agg, Joining.join}
 use Rattle.dc_node.specs.{Block.{rows_in, entries_in, is_leaf, is_full}, declared.block.Block.Block, declared.block.Body.TheVariants.Rows, declared.entry.Entry.Entry, declared.todo.Item.Item}
 use Rattle.cell_stock.specs.{Stock.PurseValue, declared.purse.Spare.Spare}
-use Rattle.shard_store.specs.{Gate.{root_entry, IsQueueOf}, declared.gate.Gate.Gate}
+use Rattle.link_descent.specs.shard_store.specs.{Gate.{root_entry, IsQueueOf}, declared.gate.Gate.Gate}
 use Rattle.link_descent.specs.{Descend.{StepsDown, Enters}, GateRead.{queue_part, tree_part, root_items}, Visit.{noted_in, noted_right, counted as block_part}, declared.entered.Entered.Entered}
 use Rattle.list_words.specs.Counts.{Each, same, times}
 use Rattle.tree_shape.specs.{Queries.{IsUnfinished, NoneWaits, fits}, Shape.{Table, Node, TreeCells, nodes, Shape, numbers}, Trees.IsTree, Walks.{Noted, pending}}

@@ -103,3 +103,7 @@ pub fn collect_laws()
     ensures other { CollectOtherLaw }
     ensures ends { CollectEndLaw }
 {}
+
+// What stands below is passed on.
+pub use link_descent;
+pub use link_descent::shard_store;

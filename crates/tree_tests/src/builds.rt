@@ -4,10 +4,10 @@ ghost use Rattle.dim_hierarchy.specs.Rows.{IsRowOf};
 
 use crate::fixtures::{Dim, coord, hierarchy};
 use cell_stock::{Purse, Stock};
+use core_pages::link_descent::Fresh;
+use core_pages::shard_build::{Built, build, cells_for};
 use dc_node::{Block, Body};
 use dim_hierarchy::{Coord, Hierarchy, Row};
-use link_descent::Fresh;
-use shard_build::{Built, build, cells_for};
 use std::alloc::{AllocError, Global};
 use std::process::Abort;
 use std::test::Fail;

@@ -1,14 +1,14 @@
 //! What is tested of `shard_store`.
 ghost use Rattle.std.specs.Prelude.{◌≡◌, ◌<◌, length, OnOk};
 ghost use Rattle.dim_hierarchy.specs.Rows.{IsRowOf};
-ghost use Rattle.shard_store.specs.Gate.{IsQueueOf};
-ghost use Rattle.shard_store.specs.declared.gate.Phase as Phase;
+ghost use Rattle.core_pages.specs.shard_store.specs.Gate.{IsQueueOf};
+ghost use Rattle.core_pages.specs.shard_store.specs.declared.gate.Phase as Phase;
 
 use crate::fixtures::{PLACES, hierarchy, row};
+use core_pages::shard_store::{Gate, NotYet, Phase};
 use describing_set::DescSet;
 use dim_hierarchy::{Hierarchy, Row};
 use measure_agg::Agg;
-use shard_store::{Gate, NotYet, Phase};
 use std::alloc::{AllocError, Global};
 use std::process::Abort;
 use std::test::Fail;

@@ -1,20 +1,20 @@
 //! What is tested of `core_pages`.
 ghost use Rattle.std.specs.Prelude.{◌<◌, [], IsSome};
 ghost use Rattle.core_pages.specs.Looks.{HasCells, cells_in, gate_in, state_of};
-ghost use Rattle.volap_cell.specs.Cells.{gate_shard};
+ghost use Rattle.core_pages.specs.volap_cell.specs.Cells.{gate_shard};
 
 use crate::fixtures::{PLACES, hierarchy};
+use core_pages::shard_store::Gate;
+use core_pages::volap_cell::{Cell, State};
 use core_pages::{Lent, page_of};
 use dc_node::{Blanks, Block, Entry};
 use describing_set::DescSet;
 use dim_hierarchy::Hierarchy;
 use measure_agg::Agg;
 use row_ledger::{NodeLine, TreePage};
-use shard_store::Gate;
 use std::alloc::{AllocError, Global};
 use std::process::Abort;
 use std::test::Fail;
-use volap_cell::{Cell, State};
 
 /// The page of the gate in the first of so many cells.
 fn page_at(alloc: Global, cells: Vec<Option<Cell>>, many: u32) -> Result<TreePage, AllocError>

@@ -4,7 +4,7 @@ use Rattle.std.specs.Prelude.{All, Option, Some, None, Contains, IsTrue, Any, op
 use Rattle.row_ledger.proofs.Descent.{comes_from-comparable, live-made}
 use Rattle.list_words.specs.Counts.{times}
 use Rattle.list_words.proofs.{Elements.Contains-nil, Truth.on_bool}
-use Rattle.tree_shape.specs.Queries.{fits}
+use Rattle.shard_build.specs.tree_shape.specs.Queries.{fits}
 use Rattle.describing_set.specs.{DescSet.covers, declared.listing.Spot.Spot}
 use Rattle.row_ledger.specs.{Bounds.known, Past.{Ack, Insert, Query, event_at, insert_at, is_kept, query_at, session_in}, Shards.{comes_from, is_live}, declared.event.Event.Event}
 use Rattle.dim_hierarchy.specs.declared.row.Row.{Row}

@@ -2,7 +2,7 @@
 use Rattle.std.proofs.{Common.{◌≡◌, ◌≢◌, ℕ, ◌+◌, Bool, false, cond, eqb, List, [], ◌∷◌, ◌++◌, Option, Some, None, refl, sym, ap, ◌∙◌, subst, arith}, lemmas.Bool.{eqb-true, eqb-false}}
 use Rattle.list_words.specs.Counts.{times}
 use Rattle.list_words.proofs.{Times.{same_is, same_not, times-append}, Truth.on_bool}
-use Rattle.shard_store.specs.{declared.gate.Phase.Phase, declared.gate.Phase.TheVariants.{Open, Frozen, Gone}}
+use Rattle.shard_build.specs.shard_store.specs.{declared.gate.Phase.Phase, declared.gate.Phase.TheVariants.{Open, Frozen, Gone}}
 use Rattle.volap_cell.specs.{Reusing.{Reusing, is_gone, without_gate}, declared.role.Role.Role, declared.role.Role.TheVariants.Admin}
 
 -- a gate that stands, or a cell without one, is not on the list

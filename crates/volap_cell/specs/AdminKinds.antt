@@ -5,7 +5,7 @@ use Rattle.dim_hierarchy.specs.{Dimension.Dimension, declared.row.Row.Row}
 use Rattle.dc_node.specs.{Block.rows_in, Summary.coords, declared.block.Block.Block, declared.todo.Item.Item}
 use Rattle.describing_set.specs.{DescSet.IsSetOf, Plane.{IsPlaneOf, goes_left}, Sets.JoinsTo, declared.plane.Plane.Plane, declared.set.DescSet.DescSet}
 use Rattle.cell_stock.specs.{Stock.{PurseValue, StockValue, Takes, Gives}, declared.purse.Spare.Spare}
-use Rattle.link_descent.specs.{Visit.noted_right, declared.entered.Fresh.Fresh}
+use Rattle.shard_build.specs.link_descent.specs.{Visit.noted_right, declared.entered.Fresh.Fresh}
 use Rattle.mapping_table.specs.declared.place.Where.{Where}
 use Rattle.mapping_table.specs.declared.place.Where.TheVariants as where_is
 use Rattle.row_ledger.specs.{LedgerValue.LedgerValue, declared.event.Event.Event, declared.settings.Decline.Decline, declared.settings.Decline.TheVariants.{OnePlace, NoCell}}
@@ -14,9 +14,9 @@ use Rattle.row_ledger.specs.declared.settings.How.TheVariants as how
 use Rattle.server_image.specs.Registry.{RegistryValue, IsSplit, IsRehosted}
 use Rattle.shard_build.specs.{Built.IsBuilt, declared.builder.Built.Built}
 use Rattle.shard_plan.specs.Building.{cells_for, split_need}
-use Rattle.shard_store.specs.{Gate.IsQueueOf, declared.gate.Gate.Gate}
-use Rattle.shard_store.specs.declared.gate.Phase.TheVariants as phase
-use Rattle.tree_shape.specs.Collecting.{root_item, entry_items}
+use Rattle.shard_build.specs.shard_store.specs.{Gate.IsQueueOf, declared.gate.Gate.Gate}
+use Rattle.shard_build.specs.shard_store.specs.declared.gate.Phase.TheVariants as phase
+use Rattle.shard_build.specs.tree_shape.specs.Collecting.{root_item, entry_items}
 use Rattle.volap_cell.specs.{Cells.{FreeCell, LedgerCell, StockCell, RegistryCell, MapCell, GateCell, BlockCell}, Commands.after_action, ImageKinds.{Pushes, doing}, Planning.next_job, Reusing.without_gate, TreeKinds.{Leads, IsRead, TurnsGate}, Values.{ActorValue, JobValue, StageValue, IsCalled, IsDeclined, IsFrozen, Collects, Builds, CollectingValue, BuildingValue}, World.Change, declared.command.Work.Work, declared.job.BuiltTree.BuiltTree, declared.job.Frozen.Frozen, declared.role.Role.TheVariants.Admin}
 use Rattle.volap_cell.specs.declared.command.Work.TheVariants as work_is
 

@@ -5,8 +5,8 @@ use Rattle.std.specs.FinMap as map
 use Rattle.measure_agg.specs.Aggregate.{agg}
 use Rattle.describing_set.specs.declared.set.DescSet.{DescSet}
 use Rattle.dc_node.specs.declared.block.Block.{Block}
-use Rattle.tree_shape.specs.Trees.{leaf_without_rows}
-use Rattle.shard_store.specs.{declared.gate.Gate.Gate, declared.gate.Phase.Phase, declared.gate.Phase.TheVariants.Open, declared.queue.Queue.Queue}
+use Rattle.shard_build.specs.tree_shape.specs.Trees.{leaf_without_rows}
+use Rattle.shard_build.specs.shard_store.specs.{declared.gate.Gate.Gate, declared.gate.Phase.Phase, declared.gate.Phase.TheVariants.Open, declared.queue.Queue.Queue}
 use Rattle.cell_stock.specs.Stock.{StockValue}
 use Rattle.row_ledger.specs.LedgerValue.{LedgerValue}
 use Rattle.mapping_table.specs.declared.place.Where.{Where}

@@ -8,9 +8,9 @@ use Rattle.query_router.specs.declared.part.Want.TheVariants as want
 use Rattle.row_ledger.specs.{Past.is_beginning, Shards.comes_from, Workers.left_at, declared.event.Event.Event}
 use Rattle.row_ledger.specs.declared.event.Event.TheVariants as event
 use Rattle.shard_plan.specs.declared.action.Action.{Action}
-use Rattle.shard_store.specs.declared.gate.Phase.{Phase}
-use Rattle.shard_store.specs.declared.gate.Phase.TheVariants as phase
-use Rattle.tree_shape.specs.{Shape.Shape, Walks.{Noted, pending}}
+use Rattle.shard_build.specs.shard_store.specs.declared.gate.Phase.{Phase}
+use Rattle.shard_build.specs.shard_store.specs.declared.gate.Phase.TheVariants as phase
+use Rattle.shard_build.specs.tree_shape.specs.{Shape.Shape, Walks.{Noted, pending}}
 use Rattle.volap_cell.specs.{Ghost.Ghost, Lineage.went_to, Setting.{Setting, actor_count, cell_count}, Sums.sum_below, Values.{ErrandValue, TaskValue, OfRow, Unread, Read, JobValue, StageValue, IsCalled, IsDeclined, IsFrozen, Collects, Builds}, View.{View, view}, World.World, declared.command.Balance.Balance, declared.command.Command.Command, declared.command.Work.Work, declared.errand.Way.Way}
 use Rattle.volap_cell.specs.declared.command.Work.TheVariants as work_is
 use Rattle.volap_cell.specs.declared.errand.Way.TheVariants as way

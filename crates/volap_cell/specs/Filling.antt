@@ -8,8 +8,8 @@ use Rattle.measure_agg.specs.Aggregate.{agg}
 use Rattle.mapping_table.specs.declared.place.Where.TheVariants as where_is
 use Rattle.row_ledger.specs.{LedgerValue.LedgerValue, declared.event.Event.Event, declared.settings.Use.Use}
 use Rattle.row_ledger.specs.declared.event.Event.TheVariants as event
-use Rattle.shard_store.specs.{Gate.IsNewGate, declared.gate.Gate.Gate}
-use Rattle.tree_shape.specs.Trees.{leaf_without_rows}
+use Rattle.shard_build.specs.shard_store.specs.{Gate.IsNewGate, declared.gate.Gate.Gate}
+use Rattle.shard_build.specs.tree_shape.specs.Trees.{leaf_without_rows}
 use Rattle.volap_cell.specs.{Cells.{CellValue, FreeCell, ImageCell, DeskCell, MapCell, GateCell, BlockCell, cell_of}, Opening.{IsOpening, IsFresh}, Setting.{Setting, actor_count, cell_count}, State.{Has, IsWorldOf}, Steps.Inv, Values.{ActorValue, actor_of}, World.World, declared.actor.Actor.Actor, declared.cell.Cell.Cell, declared.role.Role.Role, declared.role.Role.TheVariants.Hand}
 
 -- what a core with these dimensions, settings and roles is about

@@ -1,6 +1,6 @@
 -- What stands beside a state: it is in no cell and no actor, and the invariant says that there is such a thing.
 use Rattle.std.specs.Prelude.{ℕ, ◌==◌, Bool, true, false, List}
-use Rattle.tree_shape.specs.Shape.{Shape}
+use Rattle.shard_build.specs.tree_shape.specs.Shape.{Shape}
 
 -- The one use of a cell: it isn't the stock's; it is free; it is a spare of an actor's purse; it is a gate; it is a block of the
 -- tree of a gate; or it is meant for a block that an actor's job builds.

@@ -3,9 +3,9 @@ use Rattle.std.specs.Prelude.{ℕ, ◌≡◌, ◌≤◌, Bool, true, false, IsTr
 use Rattle.dim_hierarchy.specs.declared.row.Row.{Row}
 use Rattle.dc_node.specs.declared.block.Block.{Block}
 use Rattle.row_ledger.specs.{Shards.comes_from, declared.event.Event.Event}
-use Rattle.shard_store.specs.{Gate.IsQueueOf, declared.gate.Gate.Gate, declared.gate.Phase.Phase, declared.gate.Phase.TheVariants.{Frozen, Gone}, declared.queue.Queue.Queue}
+use Rattle.shard_build.specs.shard_store.specs.{Gate.IsQueueOf, declared.gate.Gate.Gate, declared.gate.Phase.Phase, declared.gate.Phase.TheVariants.{Frozen, Gone}, declared.queue.Queue.Queue}
 use Rattle.list_words.specs.Counts.{Each}
-use Rattle.tree_shape.specs.{Shape.{Table, Shape}, Trees.IsTree}
+use Rattle.shard_build.specs.tree_shape.specs.{Shape.{Table, Shape}, Trees.IsTree}
 use Rattle.volap_cell.specs.{Setting.Setting, Stocking.{cells_at, IsWhole}}
 
 abbrev pub table_of : Setting → (ℕ → Row) → Table

@@ -2,8 +2,8 @@
 use Rattle.std.specs.{Borrow.{Fml, Lends, MutBor}, Prelude.{ℕ}, Ptr.{Ptr, null_ptr}, declared.alloc.Global.Global}
 use Rattle.dc_node.specs.declared.block.Block.{Block}
 use Rattle.dc_node.specs.contracts.block.Block.{the_row as block-row}
-use Rattle.shard_store.specs.declared.gate.Gate.{Gate}
-use Rattle.shard_store.specs.contracts.gate.Gate.{the_row as gate-row}
+use Rattle.shard_build.specs.shard_store.specs.declared.gate.Gate.{Gate}
+use Rattle.shard_build.specs.shard_store.specs.contracts.gate.Gate.{the_row as gate-row}
 use Rattle.cell_stock.specs.declared.stock.Stock.{Stock}
 use Rattle.cell_stock.specs.contracts.stock.Stock.{the_row as stock-row}
 use Rattle.row_ledger.specs.declared.ledger.Ledger.{Ledger}

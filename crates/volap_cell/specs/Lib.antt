@@ -37,3 +37,8 @@ pub mod Promises
 pub mod State
 pub mod Lending
 pub mod Filling
+-- What stands below is passed on.
+pub use Rattle.shard_build.specs.shard_store
+pub use Rattle.shard_build.specs.link_descent
+pub use Rattle.shard_build.specs.tree_shape
+pub use Rattle.shard_build

@@ -8,7 +8,7 @@ use Rattle.mapping_table.specs.declared.place.Where.TheVariants as where_is
 use Rattle.query_router.specs.{Desk.{DeskValue, is_open}, declared.part.Part.Part}
 use Rattle.row_ledger.specs.{Listings.places_of, Shards.{frontier, ids_made, is_child, is_live}, Workers.{is_on, left_at}, declared.event.Event.Event, declared.event.Event.TheVariants.{Moved, Split}}
 use Rattle.server_image.specs.{Image.ImageValue, Registry.RegistryValue}
-use Rattle.shard_store.specs.{declared.gate.Phase.Phase, declared.gate.Phase.TheVariants.Gone}
+use Rattle.shard_build.specs.shard_store.specs.{declared.gate.Phase.Phase, declared.gate.Phase.TheVariants.Gone}
 use Rattle.volap_cell.specs.Setting.{Setting}
 
 -- the last move of a shard brought it to the worker

@@ -4,8 +4,8 @@ use Rattle.dim_hierarchy.specs.{Dimension.Dimension, Rows.IsRowOf, declared.row.
 use Rattle.describing_set.specs.Sets.{IsDescSetOf}
 use Rattle.dc_node.specs.{Block.{is_full, entries_in, IsBodyOf}, Summary.row_count, declared.block.Block.Block}
 use Rattle.cell_stock.specs.{Stock.PurseValue, declared.purse.Spare.Spare}
-use Rattle.shard_store.specs.{declared.gate.Gate.Gate, declared.gate.Phase.TheVariants.Open}
-use Rattle.link_descent.specs.{Descend.{StepsDown, Enters}, Divide.together, Pick.IsPick, declared.entered.Entered.Entered, declared.entered.Fresh.Fresh}
+use Rattle.shard_build.specs.shard_store.specs.{declared.gate.Gate.Gate, declared.gate.Phase.TheVariants.Open}
+use Rattle.shard_build.specs.link_descent.specs.{Descend.{StepsDown, Enters}, Divide.together, Pick.IsPick, declared.entered.Entered.Entered, declared.entered.Fresh.Fresh}
 use Rattle.volap_cell.specs.Cells.{CellValue, BlockCell}
 
 -- The cells that are held for new blocks: the first ones have them now, and what is behind these is as it was.

@@ -8,9 +8,9 @@ use Rattle.mapping_table.specs.declared.place.Where.{Where}
 use Rattle.mapping_table.specs.declared.place.Where.TheVariants as where_is
 use Rattle.row_ledger.specs.{Bounds.listing_of, Kept.IsOpeningHistory, LedgerValue.LedgerValue}
 use Rattle.server_image.specs.Registry.{RegistryValue, IsNewRegistry}
-use Rattle.shard_store.specs.{Gate.IsNewGate, declared.gate.Gate.Gate}
+use Rattle.shard_build.specs.shard_store.specs.{Gate.IsNewGate, declared.gate.Gate.Gate}
 use Rattle.list_words.specs.Counts.{times}
-use Rattle.tree_shape.specs.Trees.{leaf_without_rows}
+use Rattle.shard_build.specs.tree_shape.specs.Trees.{leaf_without_rows}
 use Rattle.volap_cell.specs.{Cells.{FreeCell, LedgerCell, StockCell, RegistryCell, ImageCell, DeskCell, MapCell, GateCell, BlockCell}, Setting.{Setting, site_in, actor_count, cell_count, first_stock_cell, ledger_cell, stock_cell, registry_cell, image_cell, desk_cell, map_cell}, Values.ActorValue, World.World, declared.role.Role.TheVariants.Hand}
 
 -- the first shard of a worker: a gate over an empty leaf, whose stamp is the worker's number, in two cells of the stock

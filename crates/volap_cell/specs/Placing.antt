@@ -6,9 +6,9 @@ use Rattle.query_router.specs.{Desk.DeskValue, declared.part.Part.Part, declared
 use Rattle.query_router.specs.declared.part.PartState.TheVariants as state
 use Rattle.row_ledger.specs.{Past.{Ack, Insert, acked, insert_at, last_of}, Shards.{comes_from, is_live, is_path}, declared.event.Event.Event}
 use Rattle.server_image.specs.Image.{ImageValue}
-use Rattle.shard_store.specs.declared.queue.Queue.{Queue}
+use Rattle.shard_build.specs.shard_store.specs.declared.queue.Queue.{Queue}
 use Rattle.list_words.specs.Counts.{same, times}
-use Rattle.tree_shape.specs.Shape.{Shape, numbers}
+use Rattle.shard_build.specs.tree_shape.specs.Shape.{Shape, numbers}
 use Rattle.volap_cell.specs.{Errands.{RowWay, has_passed}, ImageKinds.doing, Setting.Setting, declared.command.Command.Command}
 use Rattle.volap_cell.specs.declared.command.Work.TheVariants as work_is
 

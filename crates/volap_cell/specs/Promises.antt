@@ -5,9 +5,9 @@ use Rattle.dim_hierarchy.specs.declared.row.Row.{Row}
 use Rattle.describing_set.specs.{DescSet.covers, declared.listing.Spot.Spot}
 use Rattle.query_router.specs.{Desk.{is_refused, is_taken, is_waiting}, declared.part.Part.Part}
 use Rattle.row_ledger.specs.{Bounds.known, Past.{Ack, Insert, Query, acked, insert_at, is_kept, query_at}, Shards.{comes_from, is_live}}
-use Rattle.shard_store.specs.declared.gate.Phase.TheVariants.{Gone}
+use Rattle.shard_build.specs.shard_store.specs.declared.gate.Phase.TheVariants.{Gone}
 use Rattle.list_words.specs.Counts.{times}
-use Rattle.tree_shape.specs.{Queries.{fits, items_of}, Shape.{Shape, nodes, numbers}, Trees.IsTree, Walks.{Noted, AreNoted, pending}}
+use Rattle.shard_build.specs.tree_shape.specs.{Queries.{fits, items_of}, Shape.{Shape, nodes, numbers}, Trees.IsTree, Walks.{Noted, AreNoted, pending}}
 use Rattle.volap_cell.specs.{Errands.{ReadPart, RowWay, Taken, has_passed}, Ghost.Ghost, Growing.table_of, ImageKinds.doing, Invariant.InvWith, Numbering.IsSetting, Opening.IsOpening, Querying.must_hold, Setting.Setting, Steps.Inv, Stocking.cells_at, View.{View, view}, World.World}
 use Rattle.volap_cell.specs.declared.command.Work.TheVariants as work_is
 

@@ -7,9 +7,9 @@ use Rattle.query_router.specs.{Desk.{DeskValue, is_refused}, declared.part.Part.
 use Rattle.query_router.specs.declared.part.PartState.TheVariants as state
 use Rattle.query_router.specs.declared.part.Want.TheVariants as want
 use Rattle.row_ledger.specs.{Bounds.must, Past.{Query, before, query_at}, declared.event.Event.Event}
-use Rattle.shard_store.specs.declared.gate.Gate.{Gate}
+use Rattle.shard_build.specs.shard_store.specs.declared.gate.Gate.{Gate}
 use Rattle.list_words.specs.Counts.{Each, times}
-use Rattle.tree_shape.specs.{Queries.{IsUnfinished, fits}, Shape.{Shape, nodes}}
+use Rattle.shard_build.specs.tree_shape.specs.{Queries.{IsUnfinished, fits}, Shape.{Shape, nodes}}
 use Rattle.volap_cell.specs.{Errands.{ReadPart, Taken}, Growing.{IsUnder, table_of}, Setting.{Setting, actor_count}, Stocking.cells_at, Sums.sum_below, Values.ReadingValue}
 
 -- Pins.

@@ -1,7 +1,7 @@
 -- The gates that are gone and whose own cells are not free again: the administrator has a list of them all.
 use Rattle.std.specs.Prelude.{ℕ, ◌≡◌, ◌==◌, Bool, true, false, not, cond, List, filter, Option, Some}
 use Rattle.list_words.specs.Counts.{times}
-use Rattle.shard_store.specs.{declared.gate.Phase.Phase, declared.gate.Phase.TheVariants.Gone}
+use Rattle.shard_build.specs.shard_store.specs.{declared.gate.Phase.Phase, declared.gate.Phase.TheVariants.Gone}
 use Rattle.volap_cell.specs.{declared.role.Role.Role, declared.role.Role.TheVariants.Admin}
 
 -- the cells of the gates, the last one that went last, and for how many more there is room

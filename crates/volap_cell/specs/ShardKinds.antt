@@ -7,7 +7,7 @@ use Rattle.query_router.specs.{Desk.{DeskValue, is_waiting, is_with, waits_for, 
 use Rattle.query_router.specs.declared.part.PartState.TheVariants as state
 use Rattle.query_router.specs.declared.part.Want.TheVariants as want
 use Rattle.shard_plan.specs.{Balancing.plan, declared.action.Load.Load}
-use Rattle.shard_store.specs.declared.gate.Gate.{Gate}
+use Rattle.shard_build.specs.shard_store.specs.declared.gate.Gate.{Gate}
 use Rattle.volap_cell.specs.{Cells.DeskCell, Errands.{place_of, Outside}, Planning.next_job, TreeKinds.{Leads, TurnsGate, HasRow, on_way}, Values.{ActorValue, ErrandValue, TaskValue, OfRow, Unread, Read}, World.Change, declared.command.Balance.Balance, declared.command.Command.Command, declared.errand.RowErrand.RowErrand, declared.errand.Way.Way, declared.errand.Way.TheVariants.{Before, Placed}, declared.role.Role.Role, declared.role.Role.TheVariants.{Session, Hand}}
 use Rattle.volap_cell.specs.declared.command.Work.TheVariants as work_is
 

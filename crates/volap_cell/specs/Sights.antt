@@ -6,9 +6,9 @@ use Rattle.describing_set.specs.{DescSet.IsSetOf, declared.listing.Spot.Spot}
 use Rattle.measure_agg.specs.Aggregate.{agg}
 use Rattle.row_ledger.specs.{Pages.IsPageOf, declared.page.AuditLine.AuditLine, declared.page.Page.Page, declared.page.ShardLine.ShardLine, declared.page.TreePage.TreePage}
 use Rattle.row_ledger.specs.declared.page.Page.TheVariants as page
-use Rattle.shard_store.specs.{Gate.root_entry, declared.gate.Phase.TheVariants.Gone}
+use Rattle.shard_build.specs.shard_store.specs.{Gate.root_entry, declared.gate.Phase.TheVariants.Gone}
 use Rattle.list_words.specs.Counts.{Each, times}
-use Rattle.tree_shape.specs.{PageLines.{CellBlocks, lines}, Shape.{Shape, numbers}, Trees.IsTree}
+use Rattle.shard_build.specs.tree_shape.specs.{PageLines.{CellBlocks, lines}, Shape.{Shape, numbers}, Trees.IsTree}
 use Rattle.volap_cell.specs.{Growing.table_of, Setting.{Setting, cell_count}, Stocking.cells_at, Values.ActorValue, View.{View, view}, World.World}
 
 -- an actor with nothing to do, and not counted in at its desk

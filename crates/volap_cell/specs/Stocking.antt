@@ -2,9 +2,9 @@
 use Rattle.std.specs.Prelude.{ℕ, ◌≡◌, ◌≢◌, ◌+◌, ◌<◌, ◌≤◌, ◌⊎◌, Bool, true, cond, List, [], ◌++◌, Option, Some, None, IsSome}
 use Rattle.dc_node.specs.{declared.block.Block.Block, declared.todo.Item.Item}
 use Rattle.cell_stock.specs.{Stock.{StockValue, IsStock, cells_of}, declared.purse.Spare.Spare}
-use Rattle.shard_store.specs.{declared.gate.Gate.Gate, declared.gate.Phase.Phase, declared.gate.Phase.TheVariants.Gone}
+use Rattle.shard_build.specs.shard_store.specs.{declared.gate.Gate.Gate, declared.gate.Phase.Phase, declared.gate.Phase.TheVariants.Gone}
 use Rattle.list_words.specs.Counts.{Each, times}
-use Rattle.tree_shape.specs.{Queries.NoneWaits, Shape.{Shape, TreeCells, nodes}, Steps.{AreApart, AreSpares}}
+use Rattle.shard_build.specs.tree_shape.specs.{Queries.NoneWaits, Shape.{Shape, TreeCells, nodes}, Steps.{AreApart, AreSpares}}
 use Rattle.volap_cell.specs.{AdminKinds.spent_in, Errands.ReadPart, Ghost.{Owner, NotOfStock, AGate, InTree, is_unused, is_in_purse, is_in_tree, is_in_job}, Setting.{Setting, first_stock_cell, cell_count}, Values.{JobValue, StageValue, Collects}}
 
 -- the cells of the tree of a gate

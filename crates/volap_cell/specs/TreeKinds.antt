@@ -6,8 +6,8 @@ use Rattle.dim_hierarchy.specs.{Compiled.compiled, Dimension.Dimension, declared
 use Rattle.measure_agg.specs.Joining.{join}
 use Rattle.dc_node.specs.{Block.{rows_in, entries_in, is_leaf, is_full, with_rows}, declared.block.Block.Block, declared.entry.Entry.Entry, declared.todo.Item.Item}
 use Rattle.cell_stock.specs.Stock.{PurseValue, StockValue, Takes, Gives}
-use Rattle.shard_store.specs.{Gate.Enqueues, declared.gate.Gate.Gate, declared.gate.Phase.TheVariants.Open, declared.queue.Queue.Queue}
-use Rattle.link_descent.specs.{Descend.{StepsDown, Enters}, GateRead.{queue_part, tree_part, root_items}, Pick.IsPick, Visit.{noted_in, noted_right, counted as block_part}, declared.entered.Entered.Entered, declared.entered.Fresh.Fresh}
+use Rattle.shard_build.specs.shard_store.specs.{Gate.Enqueues, declared.gate.Gate.Gate, declared.gate.Phase.TheVariants.Open, declared.queue.Queue.Queue}
+use Rattle.shard_build.specs.link_descent.specs.{Descend.{StepsDown, Enters}, GateRead.{queue_part, tree_part, root_items}, Pick.IsPick, Visit.{noted_in, noted_right, counted as block_part}, declared.entered.Entered.Entered, declared.entered.Fresh.Fresh}
 use Rattle.mapping_table.specs.declared.place.Where.{Where}
 use Rattle.mapping_table.specs.declared.place.Where.TheVariants as where_is
 use Rattle.list_words.specs.Counts.{Each}

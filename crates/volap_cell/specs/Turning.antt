@@ -1,8 +1,8 @@
 -- Rows that are carried: who carries each, and that it has what its way may need.
 use Rattle.std.specs.Prelude.{ℕ, ◌≡◌, ◌≢◌, ◌==◌, ◌+◌, ◌*◌, ◌≤◌, true, false, List, Option, Some, None, length, if◌then◌else◌}
 use Rattle.cell_stock.specs.declared.purse.Spare.{Spare}
-use Rattle.shard_store.specs.{declared.gate.Phase.Phase, declared.gate.Phase.TheVariants.Gone}
-use Rattle.tree_shape.specs.Shape.{Shape}
+use Rattle.shard_build.specs.shard_store.specs.{declared.gate.Phase.Phase, declared.gate.Phase.TheVariants.Gone}
+use Rattle.shard_build.specs.tree_shape.specs.Shape.{Shape}
 use Rattle.volap_cell.specs.{Errands.{RowWay, RowPlace, Outside, AtBlock, InLeaf, AtRest}, Setting.{Setting, actor_count}, Sums.sum_below}
 
 -- 1 where an insert is in the tree of this gate

@@ -3,7 +3,7 @@ use Rattle.std.specs.Prelude.{ℕ, Bool, Option, option_map, List, map}
 use Rattle.cell_stock.specs.declared.purse.Spare.{Spare}
 use Rattle.dc_node.specs.declared.todo.Item.{Item}
 use Rattle.dim_hierarchy.specs.{Compiled.Compiled, declared.filter.Pick.Pick, declared.row.Row.Row}
-use Rattle.link_descent.specs.declared.entered.Fresh.{Fresh}
+use Rattle.shard_build.specs.link_descent.specs.declared.entered.Fresh.{Fresh}
 use Rattle.measure_agg.specs.Aggregate.{Aggregate}
 use Rattle.row_ledger.specs.declared.settings.Decline.{Decline}
 use Rattle.volap_cell.specs.{Setting.Setting, declared.actor.About.About, declared.actor.Actor.Actor, declared.command.Command.Command, declared.errand.Errand.Errand, declared.errand.Reading.Reading, declared.errand.RowErrand.RowErrand, declared.errand.Task.Task, declared.job.Building.Building, declared.job.BuiltTree.BuiltTree, declared.job.Collecting.Collecting, declared.job.Frozen.Frozen, declared.job.Job.Job, declared.job.Stage.Stage, declared.role.Role.Role}

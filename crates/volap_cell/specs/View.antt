@@ -3,7 +3,7 @@
 use Rattle.std.specs.Prelude.{ℕ, Bool, Option, Some, None, List, [], pos}
 use Rattle.dim_hierarchy.specs.declared.row.Row.{Row}
 use Rattle.dc_node.specs.declared.block.Block.{Block}
-use Rattle.shard_store.specs.{declared.gate.Gate.Gate, declared.gate.Phase.Phase, declared.queue.Queue.Queue}
+use Rattle.shard_build.specs.shard_store.specs.{declared.gate.Gate.Gate, declared.gate.Phase.Phase, declared.queue.Queue.Queue}
 use Rattle.cell_stock.specs.{Stock.StockValue, declared.purse.Spare.Spare}
 use Rattle.row_ledger.specs.{Past.{Insert, insert_at}, declared.event.Event.Event}
 use Rattle.mapping_table.specs.declared.place.Where.{Where}

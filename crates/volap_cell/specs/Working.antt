@@ -4,13 +4,13 @@ use Rattle.dim_hierarchy.specs.declared.row.Row.{Row}
 use Rattle.dc_node.specs.declared.block.Block.{Block}
 use Rattle.describing_set.specs.{Plane.IsHierarchyPlane, declared.plane.Plane.Plane}
 use Rattle.cell_stock.specs.{Stock.PurseValue, declared.purse.Spare.Spare}
-use Rattle.link_descent.specs.declared.entered.Fresh.{Fresh}
+use Rattle.shard_build.specs.link_descent.specs.declared.entered.Fresh.{Fresh}
 use Rattle.row_ledger.specs.{Bounds.may, Past.{Ack, Insert, acked, before, insert_at, work, Step}, Shards.{Place, comes_from, frontier, is_live, place}, Work.{AreReadOf, IsCause, Reading, Settles, loads as loads_of, is_done}, Workers.is_on, declared.event.Event.Event, declared.settings.Decline.Decline}
 use Rattle.shard_plan.specs.{Balancing.plan, declared.action.Action.Action, declared.action.Load.Load}
 use Rattle.shard_plan.specs.declared.action.Action.TheVariants as action
-use Rattle.shard_store.specs.{declared.gate.Gate.Gate, declared.gate.Phase.Phase, declared.queue.Queue.Queue}
-use Rattle.shard_store.specs.declared.gate.Phase.TheVariants as phase
-use Rattle.tree_shape.specs.{Collecting.IsCollecting, Shape.{Shape, numbers}}
+use Rattle.shard_build.specs.shard_store.specs.{declared.gate.Gate.Gate, declared.gate.Phase.Phase, declared.queue.Queue.Queue}
+use Rattle.shard_build.specs.shard_store.specs.declared.gate.Phase.TheVariants as phase
+use Rattle.shard_build.specs.tree_shape.specs.{Collecting.IsCollecting, Shape.{Shape, numbers}}
 use Rattle.list_words.specs.Counts.{Each, times}
 use Rattle.volap_cell.specs.{AdminKinds.{IsBuiltOf, cells_needed, spent_in}, Growing.IsUnder, Planning.{has_load, next_job, worker_among}, Setting.{Setting, site_in}, Stocking.cells_at, Values.{JobValue, StageValue, IsCalled, IsDeclined, IsFrozen, Collects, Builds, CollectingValue, BuildingValue}, declared.command.Balance.Balance, declared.command.Command.Command, declared.command.Work.Work, declared.job.Frozen.Frozen}
 use Rattle.volap_cell.specs.declared.command.Work.TheVariants as work_is

@@ -9,8 +9,8 @@ use crate::fills::{fill_one, fill_two};
 use cell_stock::Purse;
 use dc_node::{Blanks, Block};
 use dim_hierarchy::{Hierarchy, Row};
-use link_descent::{ItemSets, Tail, enter_root, put_leaf, step_down};
-use shard_store::Gate;
+use shard_build::link_descent::{ItemSets, Tail, enter_root, put_leaf, step_down};
+use shard_build::shard_store::Gate;
 use std::alloc::{AllocError, Global};
 use std::marker::Model;
 

@@ -5,7 +5,7 @@ use mapping_table::MapTable;
 use query_router::Desk;
 use row_ledger::Ledger;
 use server_image::{Image, Registry};
-use shard_store::Gate;
+use shard_build::shard_store::Gate;
 
 /// What a cell holds. Everything stands behind a pointer, so that a turn moves few bytes. What is a
 /// server's or a worker's says whose it is.

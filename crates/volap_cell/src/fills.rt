@@ -6,7 +6,7 @@ ghost use Rattle.volap_cell.specs.NewBlocks.{HaveNew};
 use crate::cell::Cell;
 use arrayvec::ArrayVec;
 use dc_node::Block;
-use link_descent::Fresh;
+use shard_build::link_descent::Fresh;
 use std::mem;
 
 /// A cell with this block, behind the last of the pointers. Takes no memory.

@@ -14,8 +14,8 @@ use describing_set::{DescSet, Plane};
 use dim_hierarchy::Items;
 use measure_agg::Agg;
 use row_ledger::Decline;
+use shard_build::shard_store::{CellList, RowList};
 use shard_plan::{Action, Load};
-use shard_store::{CellList, RowList};
 
 /// The split of a shard, or its move to a worker, by the one administrator.
 #[derive(Drop)]

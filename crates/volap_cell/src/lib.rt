@@ -40,3 +40,7 @@ pub use tags::{
     block_in, block_seen, desk_in, gate_in, gate_seen, image_in, ledger_in, map_in, owner_in,
     registry_in, stock_in,
 };
+
+// What stands below is passed on.
+pub use shard_build;
+pub use shard_build::{link_descent, shard_store, tree_shape};

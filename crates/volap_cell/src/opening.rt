@@ -18,7 +18,7 @@ use measure_agg::Agg;
 use query_router::Desk;
 use row_ledger::{Event, Ledger, Use};
 use server_image::{Image, Registry};
-use shard_store::Gate;
+use shard_build::shard_store::Gate;
 use std::alloc::{AllocError, Global};
 use std::snapshot::Snapshot;
 

@@ -11,7 +11,7 @@ use mapping_table::MapTable;
 use query_router::Desk;
 use row_ledger::Ledger;
 use server_image::{Image, Registry};
-use shard_store::Gate;
+use shard_build::shard_store::Gate;
 
 /// The history.
 #[inline(always)]

@@ -8,8 +8,8 @@ use Rattle.row_ledger.specs.declared.event.Event.{Event}
 use Rattle.core_told.proofs.Pulling.{resting-law}
 use Rattle.turn_table.specs.{Law.IsClosed, Numbered.value_of, declared.view.View.View}
 use Rattle.turn_table.proofs.Numbered.{below_length, there}
-use Rattle.volap_cell.specs.{Cells.{cell_of, ledger_in}, Setting.{Setting, ledger_cell}, Sights.IsIdle, State.{Has, IsWorldOf}, Values.{ActorValue, actor_of}, World.World, declared.actor.Actor.Actor, declared.cell.Cell.Cell}
-use Rattle.volap_cell.proofs.Cells.States.{is-some, of-it, stands}
+use Rattle.core_told.specs.volap_cell.specs.{Cells.{cell_of, ledger_in}, Setting.{Setting, ledger_cell}, Sights.IsIdle, State.{Has, IsWorldOf}, Values.{ActorValue, actor_of}, World.World, declared.actor.Actor.Actor, declared.cell.Cell.Cell}
+use Rattle.core_told.specs.volap_cell.proofs.Cells.States.{is-some, of-it, stands}
 use Rattle.volap_turns.specs.{Rule.{IsValid, Rests, all_there, history_of}, Wholes.{AreActorsOf, AreIdle, HasHistory, IsWhole, OpeningLaw}, Worlds.{at-place, is-world, long, past}}
 
 module _ {A : Type 0} where

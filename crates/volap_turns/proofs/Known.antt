@@ -8,7 +8,7 @@ use Rattle.list_words.specs.Counts.{Each}
 use Rattle.row_ledger.specs.declared.event.Event.{Event}
 use Rattle.turn_table.specs.{Law.{sight}, Numbered.{numbers_of, value_of}, declared.view.View.View}
 use Rattle.turn_table.proofs.Numbered.{find_same}
-use Rattle.volap_cell.specs.{Cells.cell_of, Setting.Setting, State.{Exchange, changes_of, exchange_if, still}, Steps.{HasSight, Inv, IsHere, IsKept, Makes}, Values.{ActorValue, actor_of}, World.{Agrees, Change, MustKeep, World, after, change}, declared.actor.Actor.Actor, declared.cell.Cell.Cell, declared.kind.Kind.Kind}
+use Rattle.core_told.specs.volap_cell.specs.{Cells.cell_of, Setting.Setting, State.{Exchange, changes_of, exchange_if, still}, Steps.{HasSight, Inv, IsHere, IsKept, Makes}, Values.{ActorValue, actor_of}, World.{Agrees, Change, MustKeep, World, after, change}, declared.actor.Actor.Actor, declared.cell.Cell.Cell, declared.kind.Kind.Kind}
 use Rattle.volap_turns.specs.{Law.{agree, others-free}, Rows.{AreAt, IsThere, cell_for, cells_for, maybe_cell}, Rule.{Goes, IsSeen}, Seats.{CanSee, HasActor}, Wholes.CanBe, Worlds.{IsWorld, is-world, past}}
 
 -- Held cells at places.

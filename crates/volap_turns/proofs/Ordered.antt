@@ -11,8 +11,8 @@ use Rattle.list_words.specs.Counts.{Each}
 use Rattle.core_steps.proofs.Filling.{by-places}
 use Rattle.turn_table.specs.{Held.AreNumbersOf, Numbered.{HaveOwnNumbers, numbers_of, value_of}}
 use Rattle.turn_table.proofs.Numbered.{find_else, find_here, find_same}
-use Rattle.volap_cell.specs.{Cells.CellValue, Setting.Setting, State.{AreDifferent, cell_if}, Values.ActorValue, World.World, declared.cell.Cell.Cell, declared.kind.Kind.Kind}
-use Rattle.volap_cell.proofs.Outcomes.{on-err}
+use Rattle.core_told.specs.volap_cell.specs.{Cells.CellValue, Setting.Setting, State.{AreDifferent, cell_if}, Values.ActorValue, World.World, declared.cell.Cell.Cell, declared.kind.Kind.Kind}
+use Rattle.core_told.specs.volap_cell.proofs.Outcomes.{on-err}
 use Rattle.volap_turns.specs.{Made.IsMadeOver, Rows.{AreAt, IsThere, cells_for}}
 use Rattle.volap_turns.proofs.Placed.{at-places, length-numbers}
 

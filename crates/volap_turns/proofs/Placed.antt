@@ -7,7 +7,7 @@ use Rattle.list_words.specs.Counts.{Each}
 use Rattle.list_words.proofs.Each.{each-both, each-left, each-map}
 use Rattle.turn_table.specs.Numbered.{HaveOwnNumbers, numbers_of, value_of}
 use Rattle.turn_table.proofs.{Numbered.{find_else, find_here}, Order.{behind_same, none_left}}
-use Rattle.volap_cell.specs.{State.AreDifferent, declared.cell.Cell.Cell}
+use Rattle.core_told.specs.volap_cell.specs.{State.AreDifferent, declared.cell.Cell.Cell}
 use Rattle.volap_turns.specs.Rows.{AreAt, IsThere, cell_for, cells_for, maybe_cell}
 
 pub length-numbers : {A : Type 0} (ps : List (ℕ × A)) → length (numbers_of ps) ≡ length ps

@@ -7,7 +7,7 @@ use Rattle.dim_hierarchy.specs.Dimension.{Dimension}
 use Rattle.row_ledger.specs.declared.event.Event.{Event}
 use Rattle.turn_table.specs.{Numbered.{after_first, numbers_of, replace, value_of}, Seat.SeatValue, Views.after_commit}
 use Rattle.turn_table.proofs.Numbered.{find_same, replace_else, replace_found, replace_here}
-use Rattle.volap_cell.specs.{Setting.ledger_cell, Values.{ActorValue, actor_of}, World.MustKeep, declared.actor.Actor.Actor, declared.cell.Cell.Cell}
+use Rattle.core_told.specs.volap_cell.specs.{Setting.ledger_cell, Values.{ActorValue, actor_of}, World.MustKeep, declared.actor.Actor.Actor, declared.cell.Cell.Cell}
 use Rattle.volap_turns.specs.{Rows.IsThere, Rule.{Needs, history_of}, Seats.{Holds}, Wholes.CanBe}
 
 -- What is known where a call went, and where it found no memory.

@@ -8,8 +8,8 @@ use Rattle.core_told.proofs.Pulling.{pulling-law}
 use Rattle.core_told.specs.Pulling.{IsPulling}
 use Rattle.turn_table.specs.Numbered.{Extends, value_of, write_all}
 use Rattle.turn_table.proofs.Numbered.{below_length, length_write_all, some_or_none}
-use Rattle.volap_cell.specs.{Cells.{CellValue, cell_of, ledger_in}, Errands.{IsCarried, way_of}, Opening.IsFresh, Setting.{Setting, ledger_cell}, State.{Exchange, changes_of}, Steps.{Inv, IsKept, history_in}, Values.{ActorValue, ErrandValue, actor_of}, World.{Agrees, MustKeep, World, after}, declared.actor.Actor.Actor, declared.cell.Cell.Cell, declared.kind.Kind.Kind}
-use Rattle.volap_cell.proofs.Runs.{reached-on}
+use Rattle.core_told.specs.volap_cell.specs.{Cells.{CellValue, cell_of, ledger_in}, Errands.{IsCarried, way_of}, Opening.IsFresh, Setting.{Setting, ledger_cell}, State.{Exchange, changes_of}, Steps.{Inv, IsKept, history_in}, Values.{ActorValue, ErrandValue, actor_of}, World.{Agrees, MustKeep, World, after}, declared.actor.Actor.Actor, declared.cell.Cell.Cell, declared.kind.Kind.Kind}
+use Rattle.core_told.specs.volap_cell.proofs.Runs.{reached-on}
 use Rattle.volap_turns.specs.Rule.{IsSeen, Needs, Rests, TurnLaw, history_of}
 use Rattle.volap_turns.specs.Worlds.{IsWorld, is-world, past, world-of, world-written}
 

@@ -5,3 +5,5 @@ pub mod Wholes
 pub mod Rows
 pub mod Made
 pub mod Seats
+-- What stands below is passed on.
+pub use Rattle.core_told

@@ -3,7 +3,7 @@ use Rattle.std.specs.Prelude.{ℕ, ◌≡◌, false, Bool, IsOk, List, OnErr, On
 use Rattle.core_steps.specs.{Places.{things, values}, Steps.Went}
 use Rattle.dim_hierarchy.specs.Dimension.{Dimension}
 use Rattle.turn_table.specs.Numbered.{numbers_of, value_of}
-use Rattle.volap_cell.specs.{Cells.CellValue, Setting.Setting, Values.ActorValue, World.World, declared.cell.Cell.Cell, declared.kind.Kind.Kind}
+use Rattle.core_told.specs.volap_cell.specs.{Cells.CellValue, Setting.Setting, Values.ActorValue, World.World, declared.cell.Cell.Cell, declared.kind.Kind.Kind}
 use Rattle.volap_turns.specs.Rows.{cells_for}
 
 -- The step was made, and the cells stand in the order in which they were held; or where it found no memory, nothing has changed.

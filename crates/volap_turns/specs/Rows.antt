@@ -5,7 +5,7 @@ use mathlib.Core.Option.{some, none}
 use Rattle.core_steps.specs.{Places.{numbers, row_of}, declared.step.Places.Places}
 use Rattle.list_words.specs.Counts.{Each}
 use Rattle.turn_table.specs.Numbered.{value_of}
-use Rattle.volap_cell.specs.{State.AreDifferent, declared.cell.Cell.Cell}
+use Rattle.core_told.specs.volap_cell.specs.{State.AreDifferent, declared.cell.Cell.Cell}
 use Rattle.volap_turns.specs.declared.spread.Row.{Row}
 
 -- the seven places of a step

@@ -6,7 +6,7 @@ use Rattle.list_words.specs.Counts.{Each}
 use Rattle.row_ledger.specs.declared.event.Event.{Event}
 use Rattle.core_told.specs.Pulling.{IsPulling}
 use Rattle.turn_table.specs.{Law.{IsLawful, Sight}, Numbered.value_of}
-use Rattle.volap_cell.specs.{Cells.{FreeCell, cell_of, ledger_in}, Opening.IsFresh, Setting.{Setting, actor_count, cell_count, ledger_cell}, Sights.IsIdle, State.{Exchange, IsWorldOf, cells_now, changes_of}, Steps.{HasSight, Inv, Makes}, Values.actor_of, World.{World, MustKeep}, declared.actor.Actor.Actor, declared.cell.Cell.Cell, declared.kind.Kind.Kind}
+use Rattle.core_told.specs.volap_cell.specs.{Cells.{FreeCell, cell_of, ledger_in}, Opening.IsFresh, Setting.{Setting, actor_count, cell_count, ledger_cell}, Sights.IsIdle, State.{Exchange, IsWorldOf, cells_now, changes_of}, Steps.{HasSight, Inv, Makes}, Values.actor_of, World.{World, MustKeep}, declared.actor.Actor.Actor, declared.cell.Cell.Cell, declared.kind.Kind.Kind}
 
 -- values of which each is at its place
 abbrev pub all_there : {A : Type 0} → List A → List (Option A)

@@ -6,7 +6,7 @@ use Rattle.core_steps.specs.{Places.values, Steps.Went}
 use Rattle.dim_hierarchy.specs.Dimension.{Dimension}
 use Rattle.row_ledger.specs.declared.event.Event.{Event}
 use Rattle.turn_table.specs.{Law.sight, Numbered.{after_first, numbers_of, value_of}, Seat.{SeatValue, cell_count}, Views.after_commit, declared.view.View.View}
-use Rattle.volap_cell.specs.{Cells.CellValue, Setting.{Setting, ledger_cell}, Steps.Inv, Values.{ActorValue, actor_of}, World.{MustKeep, World}, declared.actor.Actor.Actor, declared.cell.Cell.Cell, declared.kind.Kind.Kind}
+use Rattle.core_told.specs.volap_cell.specs.{Cells.CellValue, Setting.{Setting, ledger_cell}, Steps.Inv, Values.{ActorValue, actor_of}, World.{MustKeep, World}, declared.actor.Actor.Actor, declared.cell.Cell.Cell, declared.kind.Kind.Kind}
 use Rattle.volap_turns.specs.{Rows.{IsThere, cells_for}, Rule.{IsSeen, history_of}, Wholes.CanBe}
 
 -- Of the seat's actors one is this one, whatever rooms are in it now, and no other one must keep a cell.

@@ -4,7 +4,7 @@ use mathlib.Core.Option.{some}
 use Rattle.dim_hierarchy.specs.Dimension.{Dimension}
 use Rattle.row_ledger.specs.declared.event.Event.{Event}
 use Rattle.turn_table.specs.{Law.IsPossible, Numbered.value_of, declared.view.View.View}
-use Rattle.volap_cell.specs.{Filling.IsOpened, Setting.{Setting, actor_count, cell_count, ledger_cell}, Sights.IsIdle, State.{Has, HasInv, IsWorldOf}, Steps.history_in, Values.actor_of, World.World, declared.actor.Actor.Actor, declared.cell.Cell.Cell}
+use Rattle.core_told.specs.volap_cell.specs.{Filling.IsOpened, Setting.{Setting, actor_count, cell_count, ledger_cell}, Sights.IsIdle, State.{Has, HasInv, IsWorldOf}, Steps.history_in, Values.actor_of, World.World, declared.actor.Actor.Actor, declared.cell.Cell.Cell}
 use Rattle.volap_turns.specs.Rule.{IsValid, Needs, history_of}
 
 -- the vectors are a state that meets the invariant, over these dimensions, with each cell and each actor of its setting

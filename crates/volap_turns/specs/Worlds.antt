@@ -7,8 +7,8 @@ use lib.ListN.{get_elem?}
 use Rattle.atomic_table.proofs.Lists.{set_here, set_else}
 use Rattle.turn_table.specs.Numbered.{value_of, write_all}
 use Rattle.turn_table.proofs.Numbered.{below_length, find_else, find_here, some_or_none, there, write_all_else, write_all_here}
-use Rattle.volap_cell.specs.{Cells.{CellValue, FreeCell, cell_of}, Opening.IsFresh, State.{Exchange, IsWorldOf, cells_now, changes_of}, Values.{ActorValue, actor_of}, World.{World, after, put}, declared.actor.Actor.Actor, declared.cell.Cell.Cell}
-use Rattle.volap_cell.proofs.Cells.States.{is-some, of-it}
+use Rattle.core_told.specs.volap_cell.specs.{Cells.{CellValue, FreeCell, cell_of}, Opening.IsFresh, State.{Exchange, IsWorldOf, cells_now, changes_of}, Values.{ActorValue, actor_of}, World.{World, after, put}, declared.actor.Actor.Actor, declared.cell.Cell.Cell}
+use Rattle.core_told.specs.volap_cell.proofs.Cells.States.{is-some, of-it}
 use Rattle.volap_turns.specs.Rule.{all_there}
 
 -- The cells and actors by number are those of the state; past the last cell all are free, and past the last actor each has done nothing.

@@ -2,23 +2,23 @@
 ghost use Rattle.std.specs.Prelude.{ℕ, ◌≡◌, ◌≤◌, [], ◌∷◌, length, true, Some, None};
 ghost use Rattle.core_steps.specs.Places.{one_at, row_of, things, three_at, two_at, values};
 ghost use Rattle.turn_table.specs.Numbered.{HaveOwnNumbers};
-ghost use Rattle.volap_cell.specs.State.{still};
-ghost use Rattle.volap_cell.specs.Steps.{IsHere};
-ghost use Rattle.volap_cell.specs.Values.{actor_of};
+ghost use Rattle.core_told.specs.volap_cell.specs.State.{still};
+ghost use Rattle.core_told.specs.volap_cell.specs.Steps.{IsHere};
+ghost use Rattle.core_told.specs.volap_cell.specs.Values.{actor_of};
 ghost use Rattle.volap_turns.specs.Made.{IsMadeOver};
 ghost use Rattle.volap_turns.specs.Rows.{AreAt, IsRow, cells_for};
 
 use crate::spread::{gathered, numbered, row_at, spread};
 use core_steps::{CellStep, Others, Places};
+use core_told::volap_cell::{Actor, Cell};
 use dim_hierarchy::Hierarchy;
 use std::alloc::{AllocError, Global};
 use turn_table::{Held, One, Three, Two};
-use volap_cell::{Actor, Cell};
 
 /// A form of cells over which steps are made.
 pub(crate) trait Over<S: CellStep>: Sized {
     ghost use Rattle.std.specs.Prelude.{ℕ, List};
-    ghost use Rattle.volap_cell.specs.declared.cell.Cell.{Cell};
+    ghost use Rattle.core_told.specs.volap_cell.specs.declared.cell.Cell.{Cell};
 
     // The cells as a list.
     ghost all: { Self → List (ℕ × Cell) };

@@ -2,17 +2,17 @@
 ghost use Rattle.std.specs.Prelude.{◌≡◌, ◌<◌, ◌≤◌, false, length, IsOk, OnErr, OnOk};
 ghost use Rattle.core_steps.specs.Places.{values};
 ghost use Rattle.turn_table.specs.Numbered.{Extends};
-ghost use Rattle.volap_cell.specs.Values.{actor_of};
+ghost use Rattle.core_told.specs.volap_cell.specs.Values.{actor_of};
 ghost use Rattle.volap_turns.specs.Rows.{AreAt, IsRow, cells_for};
 ghost use Rattle.volap_turns.specs.Seats.{CanSee, HasStepped, Holds, IsStillHeld};
 
 use crate::over::{Over, is_one_more};
 use crate::volap::Volap;
 use core_steps::{CellStep, Places};
+use core_told::volap_cell::{Actor, Cell};
 use dim_hierarchy::Hierarchy;
 use std::alloc::{AllocError, Global};
 use turn_table::{Held, Lot, One, Seat, Three, TurnTable, Two};
-use volap_cell::{Actor, Cell};
 
 /// An actor of a seat makes a step over the cells that the seat holds, as one event; the first of these cells is given
 /// back, and the others stay held. Where memory is wanting, nothing changes.

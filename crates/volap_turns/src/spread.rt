@@ -7,8 +7,8 @@ ghost use Rattle.volap_turns.specs.Rows.{AreAt, IsThere, cells_for, row_in};
 
 use arrayvec::ArrayVec;
 use core_steps::{Others, Places};
+use core_told::volap_cell::Cell;
 use turn_table::Held;
-use volap_cell::Cell;
 
 /// How many cells a step holds at most.
 const MOST: usize = 7;

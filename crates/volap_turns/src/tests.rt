@@ -1,14 +1,14 @@
 //! A core opens to a table of turns.
 ghost use Rattle.std.specs.Prelude.{◌≡◌, [], ◌∷◌, length, IfOk};
-ghost use Rattle.volap_cell.specs.declared.role.Role.TheVariants.{Admin, Session};
+ghost use Rattle.core_told.specs.volap_cell.specs.declared.role.Role.TheVariants.{Admin, Session};
 ghost use Rattle.volap_turns.specs.Wholes.{AreIdle, IsWhole};
 
 use crate::{open, opening_is_whole};
+use core_told::volap_cell::{Role, RoleList, State};
 use dim_hierarchy::Hierarchy;
 use row_ledger::Use;
 use std::alloc::{AllocError, Global};
 use std::test::Fail;
-use volap_cell::{Role, RoleList, State};
 
 /// A session of server 0, and the administrator.
 fn two_roles(alloc: Global) -> Result<RoleList, AllocError>
@@ -34,7 +34,7 @@ fn opened(alloc: Global, h: &Hierarchy) -> Result<State, AllocError>
         cells: 64,
     };
     opening_is_whole();
-    volap_cell::open(alloc, h, &with, two_roles(alloc)?)
+    core_told::volap_cell::open(alloc, h, &with, two_roles(alloc)?)
 }
 
 #[test]

@@ -1,7 +1,7 @@
 //! The core as the turn table knows it.
+use core_told::volap_cell::{Actor, Cell};
 use row_ledger::Event;
 use turn_table::Core;
-use volap_cell::{Actor, Cell};
 
 /// The core's cells and actors. No value of it is made.
 pub struct Volap;
@@ -13,7 +13,7 @@ impl Core for Volap {
 
     type Entry = Event;
 
-    ghost use Rattle.volap_cell.specs.Setting.{ledger_cell};
+    ghost use Rattle.core_told.specs.volap_cell.specs.Setting.{ledger_cell};
     ghost use Rattle.volap_turns.specs.Rule.{Goes, IsValid, Needs, Rests, history_of};
     ghost use Rattle.volap_turns.specs.Law.{lawful, rests-free};
 

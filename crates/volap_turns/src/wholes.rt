@@ -2,16 +2,16 @@
 ghost use Rattle.std.specs.Prelude.{◌≡◌, ◌<◌, ◌^◌, List, [], false, filter_map, length, IfOk};
 ghost use Rattle.turn_table.specs.Seat.{cell_count};
 ghost use Rattle.turn_table.specs.Views.{HasAll, first_view};
-ghost use Rattle.volap_cell.specs.Setting.{ledger_cell};
-ghost use Rattle.volap_cell.specs.declared.cell.Cell.{Cell};
+ghost use Rattle.core_told.specs.volap_cell.specs.Setting.{ledger_cell};
+ghost use Rattle.core_told.specs.volap_cell.specs.declared.cell.Cell.{Cell};
 ghost use Rattle.volap_turns.specs.Rule.{all_there, history_of};
 ghost use Rattle.volap_turns.specs.Wholes.{AreActorsOf, AreIdle, CanBe, HasHistory, IsWhole};
 
 use crate::volap::Volap;
+use core_told::volap_cell::{Actor, Cell, State};
 use dim_hierarchy::Hierarchy;
 use std::alloc::{AllocError, Global};
 use turn_table::{Seat, TurnTable};
-use volap_cell::{Actor, Cell, State};
 
 /// What stands at the places.
 fn all_of<T: Drop>(alloc: Global, places: Vec<Option<T>>) -> Result<Vec<T>, AllocError>

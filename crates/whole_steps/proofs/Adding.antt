@@ -5,18 +5,18 @@ use Rattle.std.specs.Prelude.{OnErr, OnOk, ⊤}
 use mathlib.Core.Logic.{dite}
 use mathlib.Core.Option.{none, some}
 use native.Mathlib.Decide.{ℕ_discrete}
-use Rattle.core_due.specs.Ready.{IsPrepared}
-use Rattle.core_steps.specs.{Places.{numbers, values}, Steps.Went}
+use Rattle.call_steps.specs.core_due.specs.Ready.{IsPrepared}
+use Rattle.call_steps.specs.core_steps.specs.{Places.{numbers, values}, Steps.Went}
 use Rattle.dim_hierarchy.specs.Dimension.{Dimension}
 use Rattle.list_words.specs.Counts.{Each}
 use Rattle.row_ledger.specs.declared.event.Event.{Event}
-use Rattle.seat_steps.proofs.{Around.{asked-held, took-there}, WithLedger.{around-before, at-places}}
-use Rattle.seat_steps.specs.{Booked.{IsKeptAnyhow, IsUpToLedger}, Floors.{kept_by}, Takes.Takes, declared.floor.{Floor.Floor, Player.Player}}
+use Rattle.call_steps.specs.seat_steps.proofs.{Around.{asked-held, took-there}, WithLedger.{around-before, at-places}}
+use Rattle.call_steps.specs.seat_steps.specs.{Booked.{IsKeptAnyhow, IsUpToLedger}, Floors.{kept_by}, Takes.Takes, declared.floor.{Floor.Floor, Player.Player}}
 use Rattle.turn_table.proofs.{Numbered.{find_append_first, find_append_second, find_else, find_same, none_same, replace_else, replace_here, some_or_none}, Seats.numbers_append}
 use Rattle.turn_table.specs.{Numbered.{numbers_of, value_of}, Seat.{SeatValue, cell_count}, declared.view.View.View}
-use Rattle.volap_cell.specs.{Cells.CellValue, Setting.{Setting, ledger_cell, registry_cell}, State.AreDifferent, Values.{ActorValue, actor_of}, World.{World}, declared.actor.Actor.Actor, declared.cell.Cell.Cell, declared.kind.Kind.Kind}
-use Rattle.volap_turns.proofs.{Placed.length-numbers, Turned.same-holds}
-use Rattle.volap_turns.specs.{Rows.{AreAt, IsThere, cells_for}, Seats.{HasStepped, Holds, IsStillHeld}}
+use Rattle.core_pages.specs.volap_cell.specs.{Cells.CellValue, Setting.{Setting, ledger_cell, registry_cell}, State.AreDifferent, Values.{ActorValue, actor_of}, World.{World}, declared.actor.Actor.Actor, declared.cell.Cell.Cell, declared.kind.Kind.Kind}
+use Rattle.call_steps.specs.volap_turns.proofs.{Placed.length-numbers, Turned.same-holds}
+use Rattle.call_steps.specs.volap_turns.specs.{Rows.{AreAt, IsThere, cells_for}, Seats.{HasStepped, Holds, IsStillHeld}}
 use Rattle.whole_steps.proofs.{Alone.{around, everyone-of, keeps-none, none-kept, noted-sole, sole-on, whole-history}, Turned.{knows-on, turned-on}}
 use Rattle.whole_steps.specs.{Seats.{HasEveryone, HasTurned, Knows, TakesCell}, Sole.{HasMadeSole, HasWaited, IsDueSole, IsSole, player}}
 

@@ -6,14 +6,14 @@ use mathlib.Core.Option.{none, some, some-injective, some-ne-none}
 use native.Mathlib.Decide.{ℕ_discrete}
 use lib.ListN.{get_elem?}
 use Rattle.row_ledger.specs.{Past.{event_at, session_in}, declared.event.Event.Event}
-use Rattle.seat_steps.proofs.Told.{kept-told}
-use Rattle.seat_steps.specs.{Floors.{AreTold, IsAround, kept_by, kept_on}, declared.floor.{Floor.Floor, Player.Player}}
+use Rattle.call_steps.specs.seat_steps.proofs.Told.{kept-told}
+use Rattle.call_steps.specs.seat_steps.specs.{Floors.{AreTold, IsAround, kept_by, kept_on}, declared.floor.{Floor.Floor, Player.Player}}
 use Rattle.turn_table.specs.{Numbered.{value_of}, Seat.{SeatValue, cell_count}}
 use Rattle.turn_table.proofs.Numbered.{below_length, there}
-use Rattle.volap_cell.specs.{Cells.{CellValue, cell_of, ledger_in}, Errands.way_of, Setting.{Setting, ledger_cell}, State.exchange, Steps.{history_in}, Values.{ActorValue, actor_of}, World.MustKeep, declared.actor.Actor.Actor, declared.cell.Cell.Cell}
-use Rattle.volap_cell.specs.Setting as setting
-use Rattle.volap_turns.specs.Law.{others-free}
-use Rattle.volap_turns.proofs.Known.{about, alone, is, me, setting-is}
+use Rattle.core_pages.specs.volap_cell.specs.{Cells.{CellValue, cell_of, ledger_in}, Errands.way_of, Setting.{Setting, ledger_cell}, State.exchange, Steps.{history_in}, Values.{ActorValue, actor_of}, World.MustKeep, declared.actor.Actor.Actor, declared.cell.Cell.Cell}
+use Rattle.core_pages.specs.volap_cell.specs.Setting as setting
+use Rattle.call_steps.specs.volap_turns.specs.Law.{others-free}
+use Rattle.call_steps.specs.volap_turns.proofs.Known.{about, alone, is, me, setting-is}
 use Rattle.whole_steps.specs.{Seats.{HasEveryone, HasTurned}, Sole.{HasNotedAll, IsSole, player}}
 
 -- Who must keep none.

@@ -5,21 +5,21 @@ use mathlib.Core.Option.{none}
 use Rattle.call_steps.proofs.CallsMade.{IsBegunBy, IsToldOf, begun-by, same-work}
 use Rattle.call_steps.proofs.OpenCalls.{extends-length}
 use Rattle.call_steps.specs.Calls.{CanCall, CanEndCall}
-use Rattle.core_due.proofs.{BooksHeld.hold-ledger, Holding.prepared}
-use Rattle.core_image.specs.{NotesDue.{CanNoteShown}, Told.{open_of}, ToldPages.{began_at}}
-use Rattle.core_steps.specs.{Notes.{note_asks, note_kind, note_places, note_tells}, Places.{one_at, two_at}}
-use Rattle.core_steps.specs.declared.notes.NoteStep.TheVariants as note
+use Rattle.call_steps.specs.core_due.proofs.{BooksHeld.hold-ledger, Holding.prepared}
+use Rattle.core_pages.specs.core_image.specs.{NotesDue.{CanNoteShown}, Told.{open_of}, ToldPages.{began_at}}
+use Rattle.call_steps.specs.core_steps.specs.{Notes.{note_asks, note_kind, note_places, note_tells}, Places.{one_at, two_at}}
+use Rattle.call_steps.specs.core_steps.specs.declared.notes.NoteStep.TheVariants as note
 use Rattle.dim_hierarchy.specs.Dimension.{Dimension}
 use Rattle.list_words.proofs.Elements.{Some-same}
 use Rattle.row_ledger.specs.{Classes.class_of, Right.Asks, declared.class.Subject.Subject, declared.event.Event.Event, declared.page.Page.Page, declared.settings.{Call.Call, How.How}}
 use Rattle.row_ledger.specs.declared.event.Event.TheVariants as event
-use Rattle.seat_steps.proofs.{HeldLedger.{changed, does-held, history_in, newest, pushed, tells-held}, Since.{extends-on, map-err, map-ok}, WithLedger.due-still}
-use Rattle.seat_steps.specs.{Booked.IsDue, declared.floor.{Floor.Floor, Player.Player}}
+use Rattle.call_steps.specs.seat_steps.proofs.{HeldLedger.{changed, does-held, history_in, newest, pushed, tells-held}, Since.{extends-on, map-err, map-ok}, WithLedger.due-still}
+use Rattle.call_steps.specs.seat_steps.specs.{Booked.IsDue, declared.floor.{Floor.Floor, Player.Player}}
 use Rattle.server_image.specs.Registry.{RegistryValue}
 use Rattle.turn_table.specs.{Numbered.{value_of}, Seat.{SeatValue}}
-use Rattle.volap_cell.specs.{Cells.CellValue, Commands.once_shown, ImageKinds.{DoesNote, DoesNoteWith, IsBegun, IsFree, NotesCalled, NotesEnded, NotesShown, OfCalled, OfCalledAsking, OfCount, OfEnded, OfLeft, OfQuery, OfRefused, OfShown, OfUnknown, OfUnrouted, doing}, Setting.{Setting, ledger_cell, registry_cell}, Values.{ActorValue, actor_of}, World.{Change, World}, declared.actor.Actor.Actor, declared.cell.Cell.Cell, declared.command.{Command.Command, Work.Work}, declared.kind.Kind.Kind}
-use Rattle.volap_cell.specs.declared.command.Work.TheVariants as work_is
-use Rattle.volap_cell.specs.declared.kind.Kind.TheVariants as kind
+use Rattle.core_pages.specs.volap_cell.specs.{Cells.CellValue, Commands.once_shown, ImageKinds.{DoesNote, DoesNoteWith, IsBegun, IsFree, NotesCalled, NotesEnded, NotesShown, OfCalled, OfCalledAsking, OfCount, OfEnded, OfLeft, OfQuery, OfRefused, OfShown, OfUnknown, OfUnrouted, doing}, Setting.{Setting, ledger_cell, registry_cell}, Values.{ActorValue, actor_of}, World.{Change, World}, declared.actor.Actor.Actor, declared.cell.Cell.Cell, declared.command.{Command.Command, Work.Work}, declared.kind.Kind.Kind}
+use Rattle.core_pages.specs.volap_cell.specs.declared.command.Work.TheVariants as work_is
+use Rattle.core_pages.specs.volap_cell.specs.declared.kind.Kind.TheVariants as kind
 use Rattle.whole_steps.proofs.{Adding.takes-turn, Alone.{around, sole-on}, Turned.knows-on}
 use Rattle.whole_steps.specs.{Commands.{CanShow, HasCalledSole, HasEndedSole, HasShownSole, IsAtPage}, Seats.{HasEveryone, HasTurned, TakesCell}, Sole.{HasAdded, HasMadeSole, HasWaited, IsDueSole, IsSameBut, IsSole, player}}
 

@@ -7,13 +7,13 @@ use native.Mathlib.Decide.{ℕ_discrete}
 use Rattle.atomic_table.specs.Seated.{TableId}
 use Rattle.core_pages.specs.{Looks.{HasCells, IsActorOf, IsSeenOf, IsValid, cells_in, or_free}, Seen.IsQuietIn}
 use Rattle.row_ledger.specs.declared.{event.Event.Event, page.Page.Page}
-use Rattle.seat_steps.specs.declared.floor.{Floor.Floor, Player.Player}
+use Rattle.call_steps.specs.seat_steps.specs.declared.floor.{Floor.Floor, Player.Player}
 use Rattle.turn_table.proofs.Numbered.{below_length, some_or_none}
 use Rattle.turn_table.specs.{Law.sight, Numbered.value_of, Seat.{SeatValue, cell_count}}
-use Rattle.volap_cell.specs.{Cells.{cell_of}, Opening.IsFresh, Setting.Setting, Sights.{IsIdle, Sees}, Steps.Inv, Values.{ActorValue, actor_of}, World.World, declared.actor.Actor.Actor, declared.cell.Cell.Cell}
-use Rattle.volap_cell.specs.Setting as setting
-use Rattle.volap_turns.proofs.Known.{about, seen-of}
-use Rattle.volap_turns.specs.{Rule.{HasEvery, IsSeen}}
+use Rattle.core_pages.specs.volap_cell.specs.{Cells.{cell_of}, Opening.IsFresh, Setting.Setting, Sights.{IsIdle, Sees}, Steps.Inv, Values.{ActorValue, actor_of}, World.World, declared.actor.Actor.Actor, declared.cell.Cell.Cell}
+use Rattle.core_pages.specs.volap_cell.specs.Setting as setting
+use Rattle.call_steps.specs.volap_turns.proofs.Known.{about, seen-of}
+use Rattle.call_steps.specs.volap_turns.specs.{Rule.{HasEvery, IsSeen}}
 use Rattle.whole_steps.proofs.{Alone.everyone-of, Turned.{turned-self, within-table}}
 use Rattle.whole_steps.specs.{Commands.IsPageIn, Seats.{HasEveryone, HasTurned, KnowsAll, if_some, state_at}, Sole.{CanSeeThen, IsSole}}
 

@@ -14,14 +14,14 @@ use Rattle.row_ledger.specs.declared.event.Event.TheVariants.{Called, Ended, Sho
 use Rattle.row_ledger.specs.declared.settings.Call.TheVariants.{Audit, Barrier, Shards, Tree}
 use Rattle.row_ledger.specs.declared.settings.Decline.TheVariants as decline
 use Rattle.row_ledger.specs.declared.settings.How.TheVariants as how
-use Rattle.seat_steps.proofs.Since.{extends-on, nothing-new}
-use Rattle.seat_steps.specs.declared.floor.{Floor.Floor, Player.Player}
+use Rattle.call_steps.specs.seat_steps.proofs.Since.{extends-on, nothing-new}
+use Rattle.call_steps.specs.seat_steps.specs.declared.floor.{Floor.Floor, Player.Player}
 use Rattle.call_steps.proofs.OpenCalls.{extends-length}
 use Rattle.server_image.specs.Registry.{RegistryValue}
 use Rattle.turn_table.specs.{Numbered.{value_of}, Seat.{SeatValue, cell_count}}
-use Rattle.volap_cell.specs.{Cells.{CellValue, cell_of}, ImageKinds.{IsBegun, doing, subject_stands}, Setting.{ledger_cell}, Values.{ActorValue, actor_of}, World.World, declared.actor.Actor.Actor, declared.cell.Cell.Cell, declared.command.{Command.Command, Work.Work}}
-use Rattle.volap_cell.specs.declared.command.Work.TheVariants as work_is
-use Rattle.volap_turns.proofs.Known.{about}
+use Rattle.core_pages.specs.volap_cell.specs.{Cells.{CellValue, cell_of}, ImageKinds.{IsBegun, doing, subject_stands}, Setting.{ledger_cell}, Values.{ActorValue, actor_of}, World.World, declared.actor.Actor.Actor, declared.cell.Cell.Cell, declared.command.{Command.Command, Work.Work}}
+use Rattle.core_pages.specs.volap_cell.specs.declared.command.Work.TheVariants as work_is
+use Rattle.call_steps.specs.volap_turns.proofs.Known.{about}
 use Rattle.whole_steps.proofs.{Alone.{around, everyone-of, sole-on, whole-history}, Known.{cell-none, seen-self}, Turned.{knows-on, turned-self}}
 use Rattle.whole_steps.specs.{Commands.{CanShow, HasCalledSole, HasEndedSole, HasShownSole, IsAtPage, IsPageIn}, Done.{HasDone, HasEndedPage, HasNotBegun, HasPaged, HasToldPage, IsOfTree, IsPageAt, is_there}, Seats.{HasEveryone, HasTurned, Knows, KnowsAll, if_some, state_at}, Sole.{HasWaited, IsSameBut, IsSole, StandsSole, player}}
 use Rattle.whole_steps.specs.declared.tells.Paged.{Paged}

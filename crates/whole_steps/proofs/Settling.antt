@@ -4,19 +4,19 @@ use Rattle.std.specs.Prelude.{OnOk}
 use mathlib.Core.Option.{some, some-ne-none}
 use Rattle.call_steps.proofs.{CallsMade.same-work, OpenCalls.extends-length}
 use Rattle.call_steps.specs.Calls.{CanCall, CanEndCall, CanPullFor}
-use Rattle.core_steps.specs.Books.{book_kind, book_places, book_tells}
-use Rattle.core_steps.specs.declared.books.BookStep.TheVariants as book
+use Rattle.call_steps.specs.core_steps.specs.Books.{book_kind, book_places, book_tells}
+use Rattle.call_steps.specs.core_steps.specs.declared.books.BookStep.TheVariants as book
 use Rattle.dim_hierarchy.specs.Dimension.{Dimension}
 use Rattle.list_words.proofs.Elements.{Some-same}
 use Rattle.row_ledger.specs.declared.{event.Event.Event, settings.How.How}
 use Rattle.row_ledger.specs.declared.event.Event.TheVariants.{Ended, Synced}
 use Rattle.row_ledger.specs.declared.settings.Call.TheVariants.{Settle}
 use Rattle.row_ledger.specs.declared.settings.How.TheVariants as how
-use Rattle.seat_steps.proofs.{HeldLedger.{changed, does-held, newest}, Since.{map-ok}}
-use Rattle.seat_steps.specs.{Booked.IsDue, declared.floor.{Floor.Floor, Player.Player}}
+use Rattle.call_steps.specs.seat_steps.proofs.{HeldLedger.{changed, does-held, newest}, Since.{map-ok}}
+use Rattle.call_steps.specs.seat_steps.specs.{Booked.IsDue, declared.floor.{Floor.Floor, Player.Player}}
 use Rattle.turn_table.specs.{Numbered.value_of, Seat.SeatValue}
-use Rattle.volap_cell.specs.{Commands.{due_pull, pulled_once, settles_next}, ImageKinds.{DoesSync, doing}, Setting.{Setting, ledger_cell, registry_cell}, Values.{ActorValue, actor_of}, World.World, Cells.CellValue, declared.actor.Actor.Actor, declared.cell.Cell.Cell}
-use Rattle.volap_cell.specs.declared.command.Work.TheVariants as work_is
+use Rattle.core_pages.specs.volap_cell.specs.{Commands.{due_pull, pulled_once, settles_next}, ImageKinds.{DoesSync, doing}, Setting.{Setting, ledger_cell, registry_cell}, Values.{ActorValue, actor_of}, World.World, Cells.CellValue, declared.actor.Actor.Actor, declared.cell.Cell.Cell}
+use Rattle.core_pages.specs.volap_cell.specs.declared.command.Work.TheVariants as work_is
 use Rattle.whole_steps.proofs.{Alone.everyone-of, Calling.{added, added-before, mid-actor}, Paging.{done-so, place-same, same-on}, Turned.turned-self}
 use Rattle.whole_steps.specs.{Commands.{HasCalledSole, HasEndedSole}, Done.{HasDone, HasEndedPage}, Seats.{HasTurned}, Settles.{HasFailedToSettle, HasPulledAll, HasPulledSole, HasSettled, IsAtSettle}, Sole.{HasMadeSole, HasWaited, IsSole, StandsSole, player}}
 

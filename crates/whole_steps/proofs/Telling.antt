@@ -1,22 +1,22 @@
 -- Pages that are due at the seat that has all actors can be made: a shard that stands has its gate where the table of its worker leads.
 use Rattle.std.proofs.Common.{◌≡◌, ◌≢◌, ◌∙◌, ℕ, ◌+◌, true, false, List, [], ◌∷◌, length, Option, Some, None, Result, Ok, Err, refl, sym, ap, subst, arith}
 use Rattle.std.specs.{List.list_any, Prelude.{IfOk, IsSome}}
-use Rattle.core_due.specs.Look.{setting_by}
-use Rattle.core_image.proofs.Images.Hosts.{host-on, stands-live}
+use Rattle.call_steps.specs.core_due.specs.Look.{setting_by}
+use Rattle.core_pages.specs.core_image.proofs.Images.Hosts.{host-on, stands-live}
 use Rattle.core_pages.specs.{Looks.{IsSeenOf, StateValue, cells_in}, Seen.{CanSeeIn, IsOfGate}}
 use Rattle.list_words.proofs.Elements.{Some-same}
 use Rattle.mapping_table.specs.declared.place.Where.TheVariants as where_is
 use Rattle.row_ledger.proofs.Positions.{before-here}
 use Rattle.row_ledger.specs.{Past.{before, call_at, call_in}, Shards.{Place, frontier, is_live, is_of, places_after}, Workers.is_on, declared.class.Subject.Subject, declared.event.Event.Event, declared.event.Event.TheVariants.Called, declared.page.TreePage.TreePage, declared.settings.Call.Call, declared.settings.Use.Use}
 use Rattle.row_ledger.specs.declared.class.Subject.TheVariants as subject
-use Rattle.seat_steps.specs.declared.floor.{Floor.Floor, Player.Player}
+use Rattle.call_steps.specs.seat_steps.specs.declared.floor.{Floor.Floor, Player.Player}
 use Rattle.server_image.specs.Registry.{host_of}
-use Rattle.shard_store.specs.declared.gate.Phase.TheVariants.{Gone}
+use Rattle.core_pages.specs.shard_store.specs.declared.gate.Phase.TheVariants.{Gone}
 use Rattle.turn_table.specs.Seat.{cell_count}
-use Rattle.volap_cell.proofs.OneEvent.Noted.{new-told}
-use Rattle.volap_cell.specs.{Cells.{CellValue, gate_shard, phase_of, registry_in, where_in}, Setting.{Setting, map_cell, registry_cell}, Steps.{Inv, history_in}, Values.{ActorValue, actor_of}, View.view}
-use Rattle.volap_cell.specs.Setting as setting
-use Rattle.volap_cell.specs.declared.command.Work.TheVariants as work_is
+use Rattle.core_pages.specs.volap_cell.proofs.OneEvent.Noted.{new-told}
+use Rattle.core_pages.specs.volap_cell.specs.{Cells.{CellValue, gate_shard, phase_of, registry_in, where_in}, Setting.{Setting, map_cell, registry_cell}, Steps.{Inv, history_in}, Values.{ActorValue, actor_of}, View.view}
+use Rattle.core_pages.specs.volap_cell.specs.Setting as setting
+use Rattle.core_pages.specs.volap_cell.specs.declared.command.Work.TheVariants as work_is
 use Rattle.whole_steps.proofs.{Alone.{everyone-of, whole-history}, Known.{about-in, has-cells, me-in, quiet-in, seen-self, valid-in}}
 use Rattle.whole_steps.specs.{Commands.IsAtPage, Pages.{CanTell, StandsAt, TellsTree}, Seats.{KnowsAll, state_at}, Sole.IsSole}
 

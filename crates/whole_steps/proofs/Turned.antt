@@ -7,11 +7,11 @@ use native.Mathlib.Decide.{ℕ_discrete}
 use lib.ListN.{get_elem?}
 use Rattle.atomic_table.specs.Seated.{TableId}
 use Rattle.row_ledger.specs.declared.event.Event.{Event}
-use Rattle.seat_steps.proofs.{Left.{no-numbers, numbers-without}, Since.extends-on}
+use Rattle.call_steps.specs.seat_steps.proofs.{Left.{no-numbers, numbers-without}, Since.extends-on}
 use Rattle.turn_table.proofs.{Numbered.{below_length, find_else, find_here, some_or_none, starts_self}, Seats.numbers_append}
 use Rattle.turn_table.specs.{Numbered.{Extends, numbers_of, value_of, without}, Seat.{SeatValue, cell_count}, Views.{HasAll, after_release, after_take, seen_of, with_note}, declared.view.View.View}
-use Rattle.volap_cell.specs.{Cells.{cell_of}, Setting.ledger_cell, declared.actor.Actor.Actor, declared.cell.Cell.Cell}
-use Rattle.volap_turns.specs.{Rule.history_of, Wholes.CanBe}
+use Rattle.core_pages.specs.volap_cell.specs.{Cells.{cell_of}, Setting.ledger_cell, declared.actor.Actor.Actor, declared.cell.Cell.Cell}
+use Rattle.call_steps.specs.volap_turns.specs.{Rule.history_of, Wholes.CanBe}
 use Rattle.whole_steps.specs.Seats.{HasEveryone, HasTurned, IsLooking, Knows, KnowsAll, TakesCell, if_some}
 
 -- Nothing, and one after the other.

@@ -6,9 +6,9 @@ use Rattle.dim_hierarchy.specs.Dimension.{Dimension}
 use Rattle.row_ledger.specs.{Right.Asks, declared.class.Subject.Subject, declared.page.Page.Page, declared.settings.{Call.Call, How.How}}
 use Rattle.row_ledger.specs.declared.class.Class.TheVariants as class
 use Rattle.row_ledger.specs.declared.event.Event.TheVariants.{Called, Ended, Shown}
-use Rattle.seat_steps.specs.declared.floor.{Floor.Floor, Player.Player}
-use Rattle.volap_cell.specs.{ImageKinds.doing, Setting.Setting, Sights.SeesPage, Steps.Inv, Values.{JobValue, actor_of}, View.view, World.World, declared.command.Work.Work}
-use Rattle.volap_cell.specs.declared.command.Work.TheVariants as work_is
+use Rattle.call_steps.specs.seat_steps.specs.declared.floor.{Floor.Floor, Player.Player}
+use Rattle.core_pages.specs.volap_cell.specs.{ImageKinds.doing, Setting.Setting, Sights.SeesPage, Steps.Inv, Values.{JobValue, actor_of}, View.view, World.World, declared.command.Work.Work}
+use Rattle.core_pages.specs.volap_cell.specs.declared.command.Work.TheVariants as work_is
 use Rattle.whole_steps.specs.{Seats.{KnowsAll, state_at}, Sole.HasAdded}
 
 -- of whatever state is seen, if it meets the invariant over these dimensions, the page is what it has

@@ -7,10 +7,10 @@ use Rattle.row_ledger.specs.declared.settings.Call.TheVariants.{Tree}
 use Rattle.row_ledger.specs.declared.settings.Decline.TheVariants as decline
 use Rattle.row_ledger.specs.declared.settings.How.TheVariants as how
 use Rattle.script_run.specs.Places.{begins_of}
-use Rattle.seat_steps.specs.declared.floor.{Floor.Floor, Player.Player}
+use Rattle.call_steps.specs.seat_steps.specs.declared.floor.{Floor.Floor, Player.Player}
 use Rattle.turn_table.specs.Numbered.{Extends}
-use Rattle.volap_cell.specs.{Setting.Setting, Sights.SeesPage, Steps.{Inv, history_in}, Values.{actor_of}, View.view, World.World, declared.command.{Command.Command, Work.Work}}
-use Rattle.volap_cell.specs.declared.command.Work.TheVariants as work_is
+use Rattle.core_pages.specs.volap_cell.specs.{Setting.Setting, Sights.SeesPage, Steps.{Inv, history_in}, Values.{actor_of}, View.view, World.World, declared.command.{Command.Command, Work.Work}}
+use Rattle.core_pages.specs.volap_cell.specs.declared.command.Work.TheVariants as work_is
 use Rattle.whole_steps.specs.{Commands.IsPageIn, Seats.state_at, Sole.{IsSameBut, StandsSole}}
 use Rattle.whole_steps.specs.declared.tells.Paged.{Paged}
 use Rattle.whole_steps.specs.declared.tells.Paged.TheVariants as paged

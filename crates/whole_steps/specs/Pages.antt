@@ -1,13 +1,13 @@
 -- What a page asks of the state that is looked at.
 use Rattle.std.specs.Prelude.{ℕ, ◌≡◌, ◌<◌, ◌^◌, List, [], Some}
-use Rattle.core_due.specs.Look.{setting_by}
+use Rattle.call_steps.specs.core_due.specs.Look.{setting_by}
 use Rattle.core_pages.specs.{Looks.{HasCells, IsValid, StateValue, cells_in}, Seen.{CanSeeIn, IsOfGate, IsQuietIn}}
 use Rattle.dim_hierarchy.specs.Dimension.{Dimension}
 use Rattle.mapping_table.specs.declared.place.Where.TheVariants as where_is
 use Rattle.row_ledger.specs.{declared.class.Subject.Subject, declared.page.TreePage.TreePage, declared.settings.Use.Use}
 use Rattle.row_ledger.specs.declared.class.Subject.TheVariants as subject
 use Rattle.server_image.specs.Registry.{host_of}
-use Rattle.volap_cell.specs.{Cells.{registry_in, where_in}, Setting.{map_cell, registry_cell}}
+use Rattle.core_pages.specs.volap_cell.specs.{Cells.{registry_in, where_in}, Setting.{map_cell, registry_cell}}
 
 -- the gate of the shard is in this cell, as the table of its worker tells
 pub record StandsAt (with : Use) (state : StateValue) (shard gate : ℕ) : Type 0 where

@@ -6,8 +6,8 @@ use Rattle.atomic_table.specs.Seated.{TableId}
 use Rattle.core_pages.specs.Looks.{StateValue}
 use Rattle.row_ledger.specs.declared.event.Event.{Event}
 use Rattle.turn_table.specs.{Numbered.{Extends, numbers_of, value_of}, Seat.{SeatValue, cell_count}, Views.{HasAll, spent_view}}
-use Rattle.volap_cell.specs.{Cells.cell_of, Setting.ledger_cell, Values.actor_of, World.MustKeep, declared.actor.Actor.Actor, declared.cell.Cell.Cell}
-use Rattle.volap_turns.specs.Wholes.{CanBe}
+use Rattle.core_pages.specs.volap_cell.specs.{Cells.cell_of, Setting.ledger_cell, Values.actor_of, World.MustKeep, declared.actor.Actor.Actor, declared.cell.Cell.Cell}
+use Rattle.call_steps.specs.volap_turns.specs.Wholes.{CanBe}
 
 -- The seat of a table has every actor, and none of them must keep a cell. Ranks were told for just the cells that it holds.
 pub record HasEveryone (t : TableId) (s : SeatValue Cell Actor Event) : Type 0 where

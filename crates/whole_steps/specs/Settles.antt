@@ -5,9 +5,9 @@ use Rattle.row_ledger.specs.declared.event.Event.{Event}
 use Rattle.row_ledger.specs.declared.event.Event.TheVariants.{Ended, Synced}
 use Rattle.row_ledger.specs.declared.settings.Call.TheVariants.{Settle}
 use Rattle.row_ledger.specs.declared.settings.How.TheVariants as how
-use Rattle.seat_steps.specs.declared.floor.{Floor.Floor, Player.Player}
-use Rattle.volap_cell.specs.{Commands.{pulled_once, settles_next}, ImageKinds.doing, Setting.ledger_cell, Values.actor_of, declared.command.Work.Work}
-use Rattle.volap_cell.specs.declared.command.Work.TheVariants as work_is
+use Rattle.call_steps.specs.seat_steps.specs.declared.floor.{Floor.Floor, Player.Player}
+use Rattle.core_pages.specs.volap_cell.specs.{Commands.{pulled_once, settles_next}, ImageKinds.doing, Setting.ledger_cell, Values.actor_of, declared.command.Work.Work}
+use Rattle.core_pages.specs.volap_cell.specs.declared.command.Work.TheVariants as work_is
 use Rattle.whole_steps.specs.{Done.{HasDone, HasNotBegun}, Seats.Knows, Sole.{HasAdded, IsSameBut, StandsSole}}
 use Rattle.whole_steps.specs.declared.settles.Settled.{Settled}
 use Rattle.whole_steps.specs.declared.settles.Settled.TheVariants as settled

@@ -2,13 +2,13 @@
 -- seat by its steps. The newest event comes first.
 use Rattle.std.specs.Prelude.{ℕ, ◌≡◌, ◌≢◌, ◌<◌, ⊤, List, [], ◌∷◌, Option, Some, option_and_then}
 use mathlib.Core.Option.{some}
-use Rattle.core_due.specs.Ready.{IsPrepared}
+use Rattle.call_steps.specs.core_due.specs.Ready.{IsPrepared}
 use Rattle.dim_hierarchy.specs.Dimension.{Dimension}
 use Rattle.row_ledger.specs.{Past.{event_at, session_in}, declared.event.Event.Event}
-use Rattle.seat_steps.specs.{Floors.{IsAround, kept_by}, Made.HasMade, declared.floor.{Floor.Floor, Player.Player}}
+use Rattle.call_steps.specs.seat_steps.specs.{Floors.{IsAround, kept_by}, Made.HasMade, declared.floor.{Floor.Floor, Player.Player}}
 use Rattle.turn_table.specs.{Numbered.{Extends, value_of}, Seat.SeatValue, Views.HasAll}
-use Rattle.volap_cell.specs.{Cells.CellValue, Setting.{Setting, ledger_cell}, Sights.IsIdle, Steps.history_in, Values.{ActorValue, actor_of}, World.World, declared.actor.Actor.Actor, declared.cell.Cell.Cell, declared.kind.Kind.Kind}
-use Rattle.volap_turns.specs.{Rows.AreAt, Rule.history_of, Seats.{CanSee, Holds}}
+use Rattle.core_pages.specs.volap_cell.specs.{Cells.CellValue, Setting.{Setting, ledger_cell}, Sights.IsIdle, Steps.history_in, Values.{ActorValue, actor_of}, World.World, declared.actor.Actor.Actor, declared.cell.Cell.Cell, declared.kind.Kind.Kind}
+use Rattle.call_steps.specs.volap_turns.specs.{Rows.AreAt, Rule.history_of, Seats.{CanSee, Holds}}
 use Rattle.whole_steps.specs.Seats.{HasTurned, Knows}
 
 abbrev pub player : ℕ → Actor → SeatValue Cell Actor Event → Player

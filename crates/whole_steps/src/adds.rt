@@ -1,16 +1,16 @@
 //! A step at the seat that has all actors by which the history gets an event.
 ghost use Rattle.std.specs.Prelude.{◌≡◌, false, IsOk, OnErr, OnOk};
-ghost use Rattle.seat_steps.specs.Booked.{IsKeptAnyhow, IsUpToLedger};
+ghost use Rattle.call_steps.specs.seat_steps.specs.Booked.{IsKeptAnyhow, IsUpToLedger};
 ghost use Rattle.whole_steps.specs.Sole.{CanSeeThen, HasMadeSole, HasWaited, IsDueSole, IsSole, player};
 
 use crate::turns::{give_turns, take_turn};
-use core_steps::{CellStep, ledger_place};
-use seat_steps::{Floor, LEDGER};
+use call_steps::core_steps::{CellStep, ledger_place};
+use call_steps::seat_steps::{Floor, LEDGER};
+use call_steps::volap_turns::{Volap, step};
+use core_pages::volap_cell::Actor;
 use std::alloc::{AllocError, Global};
 use std::sync::Wait;
 use turn_table::Seat;
-use volap_cell::Actor;
-use volap_turns::{Volap, step};
 
 /// The seat waits for the turn of the ledger behind the cells that it holds, its actor makes the step over them, and all are given
 /// back. Where memory is wanting, nothing changes.

@@ -2,21 +2,21 @@
 ghost use Rattle.std.specs.Prelude.{◌≡◌, true, false, OnErr, OnOk};
 ghost use Rattle.call_steps.specs.Calls.{CanCall, CanEndCall};
 ghost use Rattle.row_ledger.specs.Classes.{class_of};
-ghost use Rattle.volap_cell.specs.ImageKinds.{asks_registry};
+ghost use Rattle.core_pages.specs.volap_cell.specs.ImageKinds.{asks_registry};
 ghost use Rattle.whole_steps.specs.Commands.{CanShow, HasCalledSole, HasEndedSole, HasShownSole};
 ghost use Rattle.whole_steps.specs.Sole.{HasWaited, StandsSole, player};
 
 use crate::adds::add;
 use crate::turns::take_turn;
 use call_steps::asks_registry;
-use core_steps::{NoteStep, registry_place};
+use call_steps::core_steps::{NoteStep, registry_place};
+use call_steps::seat_steps::Floor;
+use call_steps::volap_turns::Volap;
+use core_pages::volap_cell::Actor;
 use row_ledger::{Call, How, Page};
-use seat_steps::Floor;
 use std::alloc::{AllocError, Global};
 use std::sync::Wait;
 use turn_table::Seat;
-use volap_cell::Actor;
-use volap_turns::Volap;
 
 /// The rank that is told for the registry.
 pub(crate) const REGISTRY: u8 = 6;

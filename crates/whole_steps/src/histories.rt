@@ -1,22 +1,22 @@
 //! A copy of the whole history, made by the seat that has all actors.
 ghost use Rattle.std.specs.Prelude.{◌≡◌, ◌<◌, [], true, IfOk, OnErr, OnOk, reverse};
 ghost use Rattle.turn_table.specs.Seat.{cell_count};
-ghost use Rattle.volap_cell.specs.Setting.{ledger_cell};
-ghost use Rattle.volap_turns.specs.Rule.{history_of};
+ghost use Rattle.core_pages.specs.volap_cell.specs.Setting.{ledger_cell};
+ghost use Rattle.call_steps.specs.volap_turns.specs.Rule.{history_of};
 ghost use Rattle.whole_steps.specs.Copies.{is_small};
 ghost use Rattle.whole_steps.specs.Seats.{HasEveryone, HasTurned, Knows};
 
 use crate::copies::copy_page;
 use crate::turns::{ALONE, give_turns, take_turn};
-use core_steps::ledger_place;
+use call_steps::core_steps::ledger_place;
+use call_steps::volap_turns::Volap;
+use core_pages::volap_cell::Cell;
 use describing_set::Path;
 use dim_hierarchy::copy_filter;
 use row_ledger::{Call, Event, History};
 use std::alloc::{AllocError, Global};
 use std::sync::Wait;
 use turn_table::{Seat, TurnTable};
-use volap_cell::Cell;
-use volap_turns::Volap;
 
 /// A copy of a path. Takes memory for it where it has several ids.
 fn copy_path(alloc: Global, path: &Path) -> Result<Path, AllocError>

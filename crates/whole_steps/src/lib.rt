@@ -17,3 +17,8 @@ pub use histories::copy_history;
 pub use settles::{Settled, call_settle};
 pub use tells::{Paged, call_barrier, call_page, make_page};
 pub use turns::{give_turns, look_round, take_turn};
+
+// What stands below is passed on.
+pub use call_steps;
+pub use call_steps::{part_steps, seat_steps, session_steps, volap_turns};
+pub use core_pages::volap_cell;

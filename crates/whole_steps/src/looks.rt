@@ -2,23 +2,23 @@
 ghost use Rattle.std.specs.Prelude.{◌≡◌, []};
 ghost use mathlib.Core.Option.{some};
 ghost use Rattle.turn_table.specs.Numbered.{value_of};
-ghost use Rattle.volap_cell.specs.declared.cell.Cell.{Cell};
+ghost use Rattle.core_pages.specs.volap_cell.specs.declared.cell.Cell.{Cell};
 ghost use Rattle.whole_steps.specs.Seats.{HasEveryone, HasTurned, Knows, KnowsAll};
 
 use crate::turns::{ALONE, give_turns, take_turn};
+use call_steps::volap_turns::Volap;
 use core_pages::Cells;
+use core_pages::volap_cell::Cell;
 use std::marker::{Brand, Model, PhantomData};
 use std::sync::Wait;
 use turn_table::{Seat, TurnTable};
-use volap_cell::Cell;
-use volap_turns::Volap;
 
 /// The seat with which the looks begin. A call picks it.
 pub(crate) trait Start {
     ghost use Rattle.row_ledger.specs.declared.event.Event.{Event};
     ghost use Rattle.turn_table.specs.Seat.{SeatValue};
-    ghost use Rattle.volap_cell.specs.declared.actor.Actor.{Actor};
-    ghost use Rattle.volap_cell.specs.declared.cell.Cell.{Cell};
+    ghost use Rattle.core_pages.specs.volap_cell.specs.declared.actor.Actor.{Actor};
+    ghost use Rattle.core_pages.specs.volap_cell.specs.declared.cell.Cell.{Cell};
 
     ghost seat: { SeatValue Cell Actor Event };
 }

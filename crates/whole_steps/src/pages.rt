@@ -6,19 +6,19 @@ ghost use Rattle.row_ledger.specs.declared.class.Class.TheVariants as class;
 ghost use Rattle.row_ledger.specs.declared.page.Page.TheVariants as page;
 ghost use Rattle.server_image.specs.Registry.{host_of};
 ghost use Rattle.turn_table.specs.Seat.{cell_count};
-ghost use Rattle.volap_cell.specs.Cells.{registry_in};
-ghost use Rattle.volap_cell.specs.Setting.{registry_cell};
+ghost use Rattle.core_pages.specs.volap_cell.specs.Cells.{registry_in};
+ghost use Rattle.core_pages.specs.volap_cell.specs.Setting.{registry_cell};
 ghost use Rattle.whole_steps.specs.Commands.{IsPageIn};
 ghost use Rattle.whole_steps.specs.Pages.{CanTell, StandsAt, TellsTree};
 
-use core_due::map_at;
+use call_steps::core_due::map_at;
+use call_steps::core_steps::registry_place;
+use call_steps::seat_steps::Floor;
+use core_pages::volap_cell::Cell;
 use core_pages::{Cells, audit_page, shards_page, tree_page_at};
-use core_steps::registry_place;
 use mapping_table::Where;
 use row_ledger::{Page, Subject, TreePage, Use};
-use seat_steps::Floor;
 use std::alloc::{AllocError, Global};
-use volap_cell::Cell;
 
 /// The worker of a shard, as the registry tells.
 fn host_of<C: Cells>(cells: &mut C, shard: u32) -> Option<u8>

@@ -3,8 +3,8 @@ ghost use Rattle.std.specs.Prelude.{ℕ, ◌≡◌, ◌+◌, ◌<◌, [], ◌∷
 ghost use Rattle.call_steps.specs.Calls.{CanCall, CanPullFor};
 ghost use Rattle.row_ledger.specs.declared.settings.Call.TheVariants.{Settle};
 ghost use Rattle.turn_table.specs.Seat.{cell_count};
-ghost use Rattle.volap_cell.specs.Commands.{settles_next};
-ghost use Rattle.volap_cell.specs.Setting.{image_cell, registry_cell};
+ghost use Rattle.core_pages.specs.volap_cell.specs.Commands.{settles_next};
+ghost use Rattle.core_pages.specs.volap_cell.specs.Setting.{image_cell, registry_cell};
 ghost use Rattle.whole_steps.specs.Seats.{HasEveryone, HasTurned};
 ghost use Rattle.whole_steps.specs.Settles.{HasPulledAll, HasPulledSole, HasSettledCall, IsAtSettle};
 ghost use Rattle.whole_steps.specs.Sole.{HasWaited, StandsSole, player};
@@ -12,15 +12,15 @@ ghost use Rattle.whole_steps.specs.Sole.{HasWaited, StandsSole, player};
 use crate::adds::add;
 use crate::calls::{REGISTRY, begin_call, end_call};
 use crate::turns::take_turn;
-use core_due::tell_bytes;
-use core_steps::{BookStep, image_place, registry_place};
+use call_steps::core_due::tell_bytes;
+use call_steps::core_steps::{BookStep, image_place, registry_place};
+use call_steps::seat_steps::Floor;
+use call_steps::volap_turns::Volap;
+use core_pages::volap_cell::{Actor, there};
 use row_ledger::{Call, How};
-use seat_steps::Floor;
 use std::alloc::{AllocError, Global};
 use std::sync::Wait;
 use turn_table::{Seat, TurnTable};
-use volap_cell::{Actor, there};
-use volap_turns::Volap;
 
 /// The rank that is told for an image.
 const IMAGE: u8 = 5;

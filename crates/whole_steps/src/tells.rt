@@ -8,7 +8,7 @@ ghost use Rattle.row_ledger.specs.declared.event.Event.TheVariants.{Ended};
 ghost use Rattle.row_ledger.specs.declared.settings.Call.TheVariants.{Barrier};
 ghost use Rattle.row_ledger.specs.declared.settings.How.TheVariants.{Fine};
 ghost use Rattle.turn_table.specs.Seat.{cell_count};
-ghost use Rattle.volap_cell.specs.Values.{actor_of};
+ghost use Rattle.core_pages.specs.volap_cell.specs.Values.{actor_of};
 ghost use Rattle.whole_steps.specs.Commands.{IsAtPage, IsPageIn};
 ghost use Rattle.whole_steps.specs.Done.{HasDone, HasNotBegun, HasPaged, HasToldPage, is_there};
 ghost use Rattle.whole_steps.specs.Pages.{CanTell};
@@ -20,14 +20,14 @@ use crate::copies::with_copy;
 use crate::looks::{Looks, Start};
 use crate::pages::page_of;
 use crate::turns::look_round;
+use call_steps::seat_steps::Floor;
+use call_steps::volap_turns::Volap;
+use core_pages::volap_cell::{Actor, Command, Work};
 use row_ledger::{Call, Decline, How, Page, Subject};
-use seat_steps::Floor;
 use std::alloc::{AllocError, Global};
 use std::marker::Brand;
 use std::sync::Wait;
 use turn_table::Seat;
-use volap_cell::{Actor, Command, Work};
-use volap_turns::Volap;
 
 /// What came of a command that shows a page.
 #[derive(Drop)]

@@ -5,9 +5,9 @@ ghost use Rattle.turn_table.specs.Numbered.{value_of};
 ghost use Rattle.turn_table.specs.Seat.{IsInOrder, cell_count};
 ghost use Rattle.whole_steps.specs.Seats.{HasEveryone, HasTurned, KnowsAll, TakesCell};
 
+use call_steps::volap_turns::Volap;
 use std::sync::Wait;
 use turn_table::{Seat, TurnTable};
-use volap_turns::Volap;
 
 /// The rank that is told where a cell is held alone.
 pub(crate) const ALONE: u8 = 1;

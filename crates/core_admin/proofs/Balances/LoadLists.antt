@@ -4,7 +4,7 @@ use Rattle.std.specs.List.{list_any}
 use Rattle.row_ledger.specs.{Shards.{Place, children, frontier, is_of, place, places_after, worker_of}, declared.event.Event.Event, declared.event.Event.TheVariants.{Split, Moved}}
 use Rattle.list_words.proofs.{Elements.Contains-nil, Truth.on_bool}
 use Rattle.shard_plan.specs.declared.action.Load.{Load}
-use Rattle.volap_cell.specs.{Planning.worker_among, Working.places_in}
+use Rattle.core_tree.specs.volap_cell.specs.{Planning.worker_among, Working.places_in}
 use Rattle.balancer.specs.Turn.{rows_of_all}
 
 -- An element is replaced by one that f doesn't tell from it.

@@ -8,13 +8,13 @@ use Rattle.mapping_table.specs.declared.place.Where.{Where}
 use Rattle.mapping_table.specs.declared.place.Where.TheVariants as where_is
 use Rattle.row_ledger.specs.{Shards.{frontier, place}, Work.{Reading, loads as loads_of}, Workers.is_on}
 use Rattle.shard_plan.specs.{Balancing.plan, declared.action.Load.Load}
-use Rattle.shard_store.specs.declared.gate.Gate.{Gate}
+use Rattle.core_tree.specs.shard_store.specs.declared.gate.Gate.{Gate}
 use Rattle.list_words.specs.Counts.{times}
 use Rattle.list_words.proofs.{Times.same_not, Truth.on_bool}
-use Rattle.tree_shape.specs.{Laws.GateLaw, Shape.numbers}
-use Rattle.volap_cell.specs.{AdminKinds.rows_at, Cells.{CellValue, GateCell, MapCell, MapOf, gate_shard, tag_of, where_in}, Ghost.Ghost, Growing.IsUnder, ImageKinds.doing, Invariant.InvWith, Setting.Setting, ShardKinds.ReadsLoad, Steps.{IsHere, Makes}, TreeKinds.Leads, Values.{ActorValue, JobValue}, View.{View, view}, Working.{IsBalancing, IsReadLoad, places_in}, World.{World, change, held}, declared.command.Balance.Balance, declared.kind.Kind.TheVariants.LookUp}
-use Rattle.volap_cell.specs.declared.command.Work.TheVariants as work_is
-use Rattle.volap_cell.proofs.{Counting.length-few, Views.Shown.held-leads}
+use Rattle.core_tree.specs.tree_shape.specs.{Laws.GateLaw, Shape.numbers}
+use Rattle.core_tree.specs.volap_cell.specs.{AdminKinds.rows_at, Cells.{CellValue, GateCell, MapCell, MapOf, gate_shard, tag_of, where_in}, Ghost.Ghost, Growing.IsUnder, ImageKinds.doing, Invariant.InvWith, Setting.Setting, ShardKinds.ReadsLoad, Steps.{IsHere, Makes}, TreeKinds.Leads, Values.{ActorValue, JobValue}, View.{View, view}, Working.{IsBalancing, IsReadLoad, places_in}, World.{World, change, held}, declared.command.Balance.Balance, declared.kind.Kind.TheVariants.LookUp}
+use Rattle.core_tree.specs.volap_cell.specs.declared.command.Work.TheVariants as work_is
+use Rattle.core_tree.specs.volap_cell.proofs.{Counting.length-few, Views.Shown.held-leads}
 use Rattle.core_admin.specs.LoadDue.{CanNote, CanReadLoad, NotesLoad, after_load, loads_read}
 use Rattle.core_admin.proofs.{Balances.LoadLists.{few-places, rows-most}, Balances.LoadsRead.{balancing-read, unplanned}, Balances.ReadsLoads.{count-of, is-reading, load-keeps, reading-of}, Collecting.FrozenGates.{began-within, shard-gate}, Collecting.ShardRows.rows-few}
 

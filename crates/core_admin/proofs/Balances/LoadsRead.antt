@@ -5,7 +5,7 @@ use Rattle.row_ledger.specs.{Past.{Step, work}, Shards.{Place, comes_from, front
 use Rattle.shard_plan.specs.{Balancing.plan, declared.action.Action.Action, declared.action.Load.Load}
 use Rattle.shard_plan.specs.declared.action.Action.TheVariants as action
 use Rattle.list_words.proofs.Truth.{on_bool}
-use Rattle.volap_cell.specs.{Planning.{has_load, job_for, next_job, worker_among}, Setting.{Setting, site_in}, Values.{JobValue, IsCalled}, Working.{IsAhead, IsBalancing, IsPlanned, IsReadLoad, StandsBy, places_in}, declared.command.Balance.Balance}
+use Rattle.core_tree.specs.volap_cell.specs.{Planning.{has_load, job_for, next_job, worker_among}, Setting.{Setting, site_in}, Values.{JobValue, IsCalled}, Working.{IsAhead, IsBalancing, IsPlanned, IsReadLoad, StandsBy, places_in}, declared.command.Balance.Balance}
 use Rattle.core_image.proofs.Commands.NextAction.{drop-at, inside, next-action}
 use Rattle.core_admin.specs.LoadDue.{after_load, loads_read}
 use Rattle.core_admin.proofs.{Balances.LoadLists.{each-among, set-alike, stands-there}, Balances.PlanShards.{IsOf, emptiest-there, has-by-shard, plan-few, plan-of, shards_in}}

@@ -5,7 +5,7 @@ use Rattle.row_ledger.specs.Work.{shard_of}
 use Rattle.shard_plan.specs.{Balancing.{after_move, earlier, emptiest, even_gap, first_by, fullest, gap, has_fewer, is_larger, is_movable, numbers_below, plan, plan_of_split, split_rows, to_look_at, to_move}, declared.action.Action.Action, declared.action.Load.Load}
 use Rattle.shard_plan.specs.declared.action.Action.TheVariants as action
 use Rattle.list_words.proofs.Truth.{on_bool}
-use Rattle.volap_cell.specs.{Planning.{HasLoadNext, has_load}, declared.command.Balance.Balance}
+use Rattle.core_tree.specs.volap_cell.specs.{Planning.{HasLoadNext, has_load}, declared.command.Balance.Balance}
 use Rattle.core_image.proofs.Commands.NextAction.{all-behind}
 use Rattle.core_admin.proofs.Balances.LoadLists.{each-among}
 

@@ -6,12 +6,12 @@ use Rattle.mapping_table.specs.declared.place.Where.TheVariants as where_is
 use Rattle.row_ledger.specs.{Past.{event_at, has_ended, session_in}, Work.Reading, Workers.is_on, declared.event.Event.Event}
 use Rattle.row_ledger.specs.declared.class.Class.TheVariants as class_is
 use Rattle.shard_plan.specs.{Balancing.plan, declared.action.Action.Action, declared.action.Load.Load}
-use Rattle.shard_store.specs.declared.gate.Gate.{Gate}
-use Rattle.tree_shape.specs.Laws.{GateLaw}
+use Rattle.core_tree.specs.shard_store.specs.declared.gate.Gate.{Gate}
+use Rattle.core_tree.specs.tree_shape.specs.Laws.{GateLaw}
 use Rattle.list_words.proofs.Truth.{on_bool}
-use Rattle.volap_cell.specs.{AdminKinds.rows_at, Cells.{GateCell, queue_in, way_in, way_to_tree}, Falls.{actions_left, control_of, job_left, left, of_work, plenty}, Ghost.Ghost, Invariant.InvWith, Numbering.Numbering, Owing.Owing, Planning.{job_for, next_job}, Setting.{Setting, actor_count}, ShardKinds.ReadsLoad, Steps.{IsKept, Keeps}, Stocking.{items_of_job, spent_of}, Telling.{IsCalledAs, IsProgress, Telling}, Values.{ActorValue, JobValue, StageValue, IsCalled}, View.{View, view}, Working.{Balancing, IsBalancing, IsReadLoad, Working, frozen_in}, World.{Agrees, Change, World, after}, declared.command.Balance.Balance, declared.command.Command.Command, declared.kind.Kind.TheVariants.LookUp, declared.role.Role.TheVariants.Admin}
-use Rattle.volap_cell.specs.declared.command.Work.TheVariants as work_is
-use Rattle.volap_cell.proofs.{Persons.has-command, Views.Fields.IsNewAt, Views.Frames.{actor-at, actor-off}, Views.Parts.{by_load, view-read_load}, Views.Seen.renewed, Views.Shown.held-leads}
+use Rattle.core_tree.specs.volap_cell.specs.{AdminKinds.rows_at, Cells.{GateCell, queue_in, way_in, way_to_tree}, Falls.{actions_left, control_of, job_left, left, of_work, plenty}, Ghost.Ghost, Invariant.InvWith, Numbering.Numbering, Owing.Owing, Planning.{job_for, next_job}, Setting.{Setting, actor_count}, ShardKinds.ReadsLoad, Steps.{IsKept, Keeps}, Stocking.{items_of_job, spent_of}, Telling.{IsCalledAs, IsProgress, Telling}, Values.{ActorValue, JobValue, StageValue, IsCalled}, View.{View, view}, Working.{Balancing, IsBalancing, IsReadLoad, Working, frozen_in}, World.{Agrees, Change, World, after}, declared.command.Balance.Balance, declared.command.Command.Command, declared.kind.Kind.TheVariants.LookUp, declared.role.Role.TheVariants.Admin}
+use Rattle.core_tree.specs.volap_cell.specs.declared.command.Work.TheVariants as work_is
+use Rattle.core_tree.specs.volap_cell.proofs.{Persons.has-command, Views.Fields.IsNewAt, Views.Frames.{actor-at, actor-off}, Views.Parts.{by_load, view-read_load}, Views.Seen.renewed, Views.Shown.held-leads}
 use Rattle.core_image.proofs.{Commands.Jobs.{items-new, not-declined, spent-new, stamping-alike, stocking-alike}, Commands.Owed.{owed-others, promises-now}, Lessens.Remains.{control_at, control-changed}}
 use Rattle.core_admin.specs.LoadDue.{after_load, loads_read}
 use Rattle.core_admin.proofs.{Balances.LoadsRead.{balancing-read, first-is, is-planned, jobless, over-none, unplanned, within}, Collecting.ShardRows.{rows as rows-of, rows-allowed, rows-count, rows-once, rows-own, rows-under}, Jobs.NextJobs.{job-few, balancing-one}, Jobs.TurnedCommands.{IsOffDesk, turned-desking, turned-inserting, turned-placing}}

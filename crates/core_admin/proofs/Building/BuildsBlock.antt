@@ -4,15 +4,15 @@ use Rattle.std.specs.Prelude.{take}
 use Rattle.cell_stock.specs.{Stock.cells_of, declared.purse.Spare.Spare}
 use Rattle.dc_node.specs.declared.block.Block.{Block}
 use Rattle.dim_hierarchy.specs.Dimension.{Dimension}
-use Rattle.link_descent.specs.declared.entered.Fresh.{Fresh}
+use Rattle.core_tree.specs.link_descent.specs.declared.entered.Fresh.{Fresh}
 use Rattle.row_ledger.specs.Workers.{is_on}
 use Rattle.list_words.specs.Counts.{Among, Each, times}
 use Rattle.list_words.proofs.{Each.{each-both, each-map, among-right, each-here, each-among}, Times.{times-append, same_is}, Truth.on_bool}
-use Rattle.tree_shape.specs.{Laws.{CollectOtherLaw, OtherLaw}, Shape.{nodes, numbers}, Steps.AreApart}
-use Rattle.volap_cell.specs.{AdminKinds.{DoesBuildBlock, IsBuiltOf, spent_by, spent_in}, Cells.{BlockCell, CellValue, block_in, has_block}, Falls.{control_of, job_left, left, of_work, plenty, stage_left}, Ghost.{Ghost, InJob, InTree}, Growing.table_of, Invariant.InvWith, Setting.Setting, Steps.{IsKept, Keeps, Makes}, Stocking.{IsWhole, LeavesStamp, Stamping, Stocking, all_spares, cells_at, items_in, items_of_job, spent_of}, Values.{ActorValue, BuildingValue, Builds, Collects, IsDeclined, JobValue, StageValue, building_of, job_of, stage_of}, View.{View, view}, Working.{IsBuilding, IsCollected, IsDeclinedFor, IsFrozenFor, IsJobOf, Working, frozen_in}, World.{Agrees, Change, World, after, change}, declared.command.Command.Command, declared.job.Building.Building, declared.job.Frozen.Frozen, declared.job.Job.Job, declared.job.Stage.Stage, declared.job.Unbuilt.Unbuilt}
-use Rattle.volap_cell.specs.declared.job.Stage.TheVariants as stage_is
-use Rattle.volap_cell.specs.declared.kind.Kind.TheVariants as kind
-use Rattle.volap_cell.proofs.{Cells.Blanks.spent-owner, Cells.Spares.{among-cells, build-blank}, OneEvent.Reads.{pinned-whole, readers-take}, Views.Admin.{by_build_block, view-build_block}, Views.Fields.IsNewAt, Views.Frames.{actor-at, actor-off, elsewhere, first}, Views.Seen.renewed}
+use Rattle.core_tree.specs.tree_shape.specs.{Laws.{CollectOtherLaw, OtherLaw}, Shape.{nodes, numbers}, Steps.AreApart}
+use Rattle.core_tree.specs.volap_cell.specs.{AdminKinds.{DoesBuildBlock, IsBuiltOf, spent_by, spent_in}, Cells.{BlockCell, CellValue, block_in, has_block}, Falls.{control_of, job_left, left, of_work, plenty, stage_left}, Ghost.{Ghost, InJob, InTree}, Growing.table_of, Invariant.InvWith, Setting.Setting, Steps.{IsKept, Keeps, Makes}, Stocking.{IsWhole, LeavesStamp, Stamping, Stocking, all_spares, cells_at, items_in, items_of_job, spent_of}, Values.{ActorValue, BuildingValue, Builds, Collects, IsDeclined, JobValue, StageValue, building_of, job_of, stage_of}, View.{View, view}, Working.{IsBuilding, IsCollected, IsDeclinedFor, IsFrozenFor, IsJobOf, Working, frozen_in}, World.{Agrees, Change, World, after, change}, declared.command.Command.Command, declared.job.Building.Building, declared.job.Frozen.Frozen, declared.job.Job.Job, declared.job.Stage.Stage, declared.job.Unbuilt.Unbuilt}
+use Rattle.core_tree.specs.volap_cell.specs.declared.job.Stage.TheVariants as stage_is
+use Rattle.core_tree.specs.volap_cell.specs.declared.kind.Kind.TheVariants as kind
+use Rattle.core_tree.specs.volap_cell.proofs.{Cells.Blanks.spent-owner, Cells.Spares.{among-cells, build-blank}, OneEvent.Reads.{pinned-whole, readers-take}, Views.Admin.{by_build_block, view-build_block}, Views.Fields.IsNewAt, Views.Frames.{actor-at, actor-off, elsewhere, first}, Views.Seen.renewed}
 use Rattle.core_tree.proofs.{Stocks.Spares.spares-distinct, Stocks.Stamps.distinct-stamps}
 use Rattle.core_image.proofs.{Commands.Jobs.{stamping-alike, stocking-alike}, Lessens.Remains.control-changed}
 use Rattle.core_admin.specs.FinishDue.{BuildsNext, CanBuildBlock, IsUnbuilt}

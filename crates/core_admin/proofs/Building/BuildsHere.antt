@@ -6,11 +6,11 @@ use Rattle.dc_node.specs.declared.todo.Item.{Item}
 use Rattle.describing_set.specs.{Plane.goes_left, declared.plane.Plane.Plane}
 use Rattle.measure_agg.specs.Aggregate.{Aggregate}
 use Rattle.shard_plan.specs.Building.{cells_for, split_need}
-use Rattle.shard_store.specs.declared.gate.Phase.TheVariants as phase
-use Rattle.tree_shape.specs.{Collecting.{AfterCollecting, IsCollecting}, Laws.{CollectEndLaw, ReadLaw, ReadableLaw}, Shape.numbers}
+use Rattle.core_tree.specs.shard_store.specs.declared.gate.Phase.TheVariants as phase
+use Rattle.core_tree.specs.tree_shape.specs.{Collecting.{AfterCollecting, IsCollecting}, Laws.{CollectEndLaw, ReadLaw, ReadableLaw}, Shape.numbers}
 use Rattle.list_words.proofs.{Each.{each-map, all-each}, Truth.on_bool}
-use Rattle.volap_cell.specs.{AdminKinds.{CollectsAll, HasJob, cells_needed, left_of, right_of, spent_in}, Cells.{CellValue, phase_of}, Growing.table_of, Steps.{IsHere, Makes}, Stocking.cells_at, Values.{ActorValue, CollectingValue, JobValue, StageValue, Collects}, View.{View, view}, Working.{HasBegun, IsCollected, IsFrozenFor}, World.{change, held}, declared.kind.Kind.TheVariants.Collect}
-use Rattle.volap_cell.proofs.Counting.{length-few}
+use Rattle.core_tree.specs.volap_cell.specs.{AdminKinds.{CollectsAll, HasJob, cells_needed, left_of, right_of, spent_in}, Cells.{CellValue, phase_of}, Growing.table_of, Steps.{IsHere, Makes}, Stocking.cells_at, Values.{ActorValue, CollectingValue, JobValue, StageValue, Collects}, View.{View, view}, Working.{HasBegun, IsCollected, IsFrozenFor}, World.{change, held}, declared.kind.Kind.TheVariants.Collect}
+use Rattle.core_tree.specs.volap_cell.proofs.Counting.{length-few}
 use Rattle.core_admin.specs.BuildDue.{BuildsTrees, CanBuild, CanBuildTrees, MayBuild}
 use Rattle.core_admin.proofs.{Collecting.CollectsHere.{collect-keeps, one-job}, Collecting.Drains.same-collecting, Collecting.FrozenGates.{IsGateOf, phase-gate, placed-within, queue-few, stands-placed}, Collecting.SoFar.{gate-of, its, so-far}}
 

@@ -9,12 +9,12 @@ use Rattle.mapping_table.specs.declared.place.Where.TheVariants as where_is
 use Rattle.row_ledger.specs.{LedgerValue.LedgerValue, Listings.places_of, Past.{Step, work}, Shards.frontier, Work.{Settles, is_done}}
 use Rattle.list_words.proofs.{Each.each-right, Elements.length-AllZip, Times.{times-append, all-times, distinct-times}}
 use Rattle.server_image.specs.Registry.{RegistryValue, on_frontier}
-use Rattle.shard_store.specs.{Gate.IsQueueOf, declared.gate.Gate.Gate, declared.queue.Queue.Queue}
-use Rattle.shard_store.specs.declared.gate.Phase.TheVariants as phase
+use Rattle.core_tree.specs.shard_store.specs.{Gate.IsQueueOf, declared.gate.Gate.Gate, declared.queue.Queue.Queue}
+use Rattle.core_tree.specs.shard_store.specs.declared.gate.Phase.TheVariants as phase
 use Rattle.list_words.specs.Counts.{Each, times}
-use Rattle.volap_cell.specs.{AdminKinds.IsUpTo, Cells.{CellValue, GateCell, LedgerCell, MapCell, MapOf, RegistryCell, StockCell, active_in, gate_shard, phase_of, queue_in, tag_of}, Ghost.{Ghost, NotOfStock, is_in_purse}, ImageKinds.doing, Invariant.InvWith, Planning.next_job, Setting.{Setting, site_in}, Steps.IsHere, Values.{ActorValue, JobValue}, View.{View, view}, Working.{IsBuilding, IsFrozenFor, IsJobOf, begun_job, frozen_in}, World.{Change, held}, declared.command.Balance.Balance, declared.command.Command.Command, declared.command.Work.Work}
-use Rattle.volap_cell.specs.declared.command.Work.TheVariants as work_is
-use Rattle.volap_cell.proofs.Views.Shown.{held-map, held-registry, held-stock}
+use Rattle.core_tree.specs.volap_cell.specs.{AdminKinds.IsUpTo, Cells.{CellValue, GateCell, LedgerCell, MapCell, MapOf, RegistryCell, StockCell, active_in, gate_shard, phase_of, queue_in, tag_of}, Ghost.{Ghost, NotOfStock, is_in_purse}, ImageKinds.doing, Invariant.InvWith, Planning.next_job, Setting.{Setting, site_in}, Steps.IsHere, Values.{ActorValue, JobValue}, View.{View, view}, Working.{IsBuilding, IsFrozenFor, IsJobOf, begun_job, frozen_in}, World.{Change, held}, declared.command.Balance.Balance, declared.command.Command.Command, declared.command.Work.Work}
+use Rattle.core_tree.specs.volap_cell.specs.declared.command.Work.TheVariants as work_is
+use Rattle.core_tree.specs.volap_cell.proofs.Views.Shown.{held-map, held-registry, held-stock}
 use Rattle.core_image.proofs.{Commands.Backed.all-promised, Commands.NextAction.next-action, Images.Hosts.stands-live}
 use Rattle.core_admin.specs.FinishDue.{IsBuiltUp, IsLate, MayCloseDone, gone_by, plans}
 use Rattle.core_admin.proofs.{Collecting.FrozenGates.{IsGateOf, frozen-gate, queue-few, shard-gate}, Postponing.PostponeReady.owes-enough, Postponing.Returned.{cells-append, one-use}}

@@ -4,9 +4,9 @@ use Rattle.std.specs.Prelude.{reverse}
 use Rattle.cell_stock.specs.Stock.{PurseValue}
 use Rattle.describing_set.specs.{Plane.goes_left, declared.plane.Plane.Plane}
 use Rattle.dim_hierarchy.specs.{Dimension.Dimension, declared.row.Row.Row}
-use Rattle.link_descent.specs.declared.entered.Fresh.{Fresh}
-use Rattle.shard_build.specs.{Built.IsBuilt, declared.builder.Built.Built}
-use Rattle.volap_cell.specs.{AdminKinds.{left_of, right_of, spent_by, tree_of}, Values.{BuildingValue, CollectingValue}}
+use Rattle.core_tree.specs.link_descent.specs.declared.entered.Fresh.{Fresh}
+use Rattle.core_tree.specs.shard_build.specs.{Built.IsBuilt, declared.builder.Built.Built}
+use Rattle.core_tree.specs.volap_cell.specs.{AdminKinds.{left_of, right_of, spent_by, tree_of}, Values.{BuildingValue, CollectingValue}}
 use Rattle.core_admin.specs.BuildDue.{AreBuilt, IsMadeOf}
 
 -- what a building has beside its trees

@@ -4,13 +4,13 @@ use Rattle.cell_stock.specs.{Stock.{PurseValue, cells_of}, declared.purse.Spare.
 use Rattle.dim_hierarchy.specs.{Dimension.Dimension, declared.row.Row.Row}
 use Rattle.dc_node.specs.{Block.entries_in, Summary.coords, declared.block.Block.Block, declared.entry.Entry.Entry}
 use Rattle.describing_set.specs.DescSet.{IsSetOf}
-use Rattle.link_descent.specs.declared.entered.Fresh.{Fresh}
-use Rattle.shard_build.specs.{Building.{spare_of, spare_to}, Built.{IsBuilt, IsInCells, root_of}, declared.builder.Built.Built}
-use Rattle.shard_store.specs.{Gate.root_entry, declared.gate.Gate.Gate}
+use Rattle.core_tree.specs.link_descent.specs.declared.entered.Fresh.{Fresh}
+use Rattle.core_tree.specs.shard_build.specs.{Building.{spare_of, spare_to}, Built.{IsBuilt, IsInCells, root_of}, declared.builder.Built.Built}
+use Rattle.core_tree.specs.shard_store.specs.{Gate.root_entry, declared.gate.Gate.Gate}
 use Rattle.list_words.specs.Counts.{Among, Each, times}
 use Rattle.list_words.proofs.{Each.{each-map, each-all, each-left, each-right, each-among}, Elements.Contains-nil, Times.{same_is, same_not}, Truth.on_bool}
-use Rattle.tree_shape.specs.{Forest.{AfterBuilding, AreInCells, AreRowsOf, all_entries, filled_cells}, Laws.GateLaw, Shape.{Shape, nodes, numbers}, Trees.IsTree}
-use Rattle.volap_cell.specs.{AdminKinds.{IsGateFor, tree_of, spent_by}, Cells.way_to_tree, Ghost.{Ghost, InPurse, Owner, is_in_job}, Growing.table_of, Setting.Setting, Stocking.{cells_at, spent_of}, View.View, declared.job.BuiltTree.BuiltTree}
+use Rattle.core_tree.specs.tree_shape.specs.{Forest.{AfterBuilding, AreInCells, AreRowsOf, all_entries, filled_cells}, Laws.GateLaw, Shape.{Shape, nodes, numbers}, Trees.IsTree}
+use Rattle.core_tree.specs.volap_cell.specs.{AdminKinds.{IsGateFor, tree_of, spent_by}, Cells.way_to_tree, Ghost.{Ghost, InPurse, Owner, is_in_job}, Growing.table_of, Setting.Setting, Stocking.{cells_at, spent_of}, View.View, declared.job.BuiltTree.BuiltTree}
 
 -- the cells of spent spares are those of the blocks
 pub cells-spent : (fs : List Fresh) → cells_of (spent_by fs) ≡ filled_cells fs

@@ -4,12 +4,12 @@ use Rattle.std.proofs.{Common.{◌≡◌, ℕ, ◌+◌, ◌≤◌, eqb, List, []
 use Rattle.cell_stock.specs.{Stock.{PurseValue, cells_of, stamps_of}, declared.purse.Spare.Spare}
 use Rattle.dim_hierarchy.specs.{Dimension.Dimension, declared.row.Row.Row}
 use Rattle.describing_set.specs.declared.plane.Plane.{Plane}
-use Rattle.link_descent.specs.declared.entered.Fresh.{Fresh}
-use Rattle.shard_build.specs.Building.{UsesUp, spare_of}
+use Rattle.core_tree.specs.link_descent.specs.declared.entered.Fresh.{Fresh}
+use Rattle.core_tree.specs.shard_build.specs.Building.{UsesUp, spare_of}
 use Rattle.list_words.specs.Counts.{Among, Each, same, times, total}
 use Rattle.list_words.proofs.{Each.{among-left, among-right, each-append, each-here, each-among, each-map}, Times.{same_is, same_not}, Totals.{total-append, total-map, total-one}, Truth.on_bool}
-use Rattle.tree_shape.specs.{Shape.{Node, Shape}, Steps.{AreApart, AreSpares}}
-use Rattle.volap_cell.specs.{AdminKinds.{IsBuiltOf, spent_by}, Values.BuildingValue}
+use Rattle.core_tree.specs.tree_shape.specs.{Shape.{Node, Shape}, Steps.{AreApart, AreSpares}}
+use Rattle.core_tree.specs.volap_cell.specs.{AdminKinds.{IsBuiltOf, spent_by}, Values.BuildingValue}
 
 total-reverse : {A : Type 0} (f : A → ℕ) (xs : List A) → total f (reverse xs) ≡ total f xs
 total-reverse f [] = refl

@@ -3,13 +3,13 @@ use Rattle.std.proofs.{Common.{◌≡◌, ◌≢◌, ℕ, eqb, List, [], ◌∷�
 use Rattle.cell_stock.specs.declared.purse.Spare.{Spare}
 use Rattle.dim_hierarchy.specs.declared.row.Row.{Row}
 use Rattle.dc_node.specs.{Block.rows_in, declared.block.Block.Block, declared.todo.Item.Item}
-use Rattle.link_descent.specs.Visit.{noted_right}
-use Rattle.shard_store.specs.declared.gate.Phase.{Phase}
-use Rattle.tree_shape.specs.{Collecting.{AfterRead, IsCollecting, IsReadable, entry_items}, Laws.{ReadLaw, ReadableLaw}, Queries.NoneWaits, Shape.{Shape, Table, TreeCells, nodes, numbers}, Steps.{IsIdle, IsSpare}}
+use Rattle.core_tree.specs.link_descent.specs.Visit.{noted_right}
+use Rattle.core_tree.specs.shard_store.specs.declared.gate.Phase.{Phase}
+use Rattle.core_tree.specs.tree_shape.specs.{Collecting.{AfterRead, IsCollecting, IsReadable, entry_items}, Laws.{ReadLaw, ReadableLaw}, Queries.NoneWaits, Shape.{Shape, Table, TreeCells, nodes, numbers}, Steps.{IsIdle, IsSpare}}
 use Rattle.list_words.specs.Counts.{Among, Each, times}
 use Rattle.list_words.proofs.{Each.{each-both, each-append, each-here}, Times.{times-append, same_is}, Truth.on_bool}
-use Rattle.volap_cell.specs.{AdminKinds.CollectsBlock, Cells.block_in, Errands.{AtBlock, IsCarried, RowWay, block_at}, Falls.stage_left, Ghost.Ghost, Growing.table_of, Invariant.InvWith, Kinds.Does, Setting.Setting, Steps.IsKept, Stocking.{NoneExpects, all_spares, cells_at, items_in}, Values.{ActorValue, CollectingValue, Collects}, View.{View, view, row_or}, Working.{HasBegun, IsCollected}, World.{Agrees, Change, World, after}, declared.kind.Kind.TheVariants.Collect}
-use Rattle.volap_cell.proofs.Views.Admin.{view-collect_block}
+use Rattle.core_tree.specs.volap_cell.specs.{AdminKinds.CollectsBlock, Cells.block_in, Errands.{AtBlock, IsCarried, RowWay, block_at}, Falls.stage_left, Ghost.Ghost, Growing.table_of, Invariant.InvWith, Kinds.Does, Setting.Setting, Steps.IsKept, Stocking.{NoneExpects, all_spares, cells_at, items_in}, Values.{ActorValue, CollectingValue, Collects}, View.{View, view, row_or}, Working.{HasBegun, IsCollected}, World.{Agrees, Change, World, after}, declared.kind.Kind.TheVariants.Collect}
+use Rattle.core_tree.specs.volap_cell.proofs.Views.Admin.{view-collect_block}
 use Rattle.core_admin.proofs.{Collecting.Freezings.wayless, Collecting.FrozenGates.{IsGateOf, spares-each, stands-placed}, Collecting.SoFar.{gate-of, goes-on, its, none-spent, so-far}, Collecting.Stages.{job-fresh, job-waits, read-few, waits-read}, Jobs.Stages.{IsNewStage, Stages, stage-goes_on, stage-history, stage-holds}}
 
 pub none-left : (items : List Item) (item : Item) → items ++ item ∷ [] ≡ [] → ⊥

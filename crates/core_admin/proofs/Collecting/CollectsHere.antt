@@ -2,10 +2,10 @@
 use Rattle.std.proofs.{Common.{◌≡◌, ℕ, ◌+◌, ◌<◌, true, List, [], ◌∷◌, ◌++◌, length, take, Option, Some, refl, sym, ap, ◌∙◌, subst, inl, inr, arith, IfSome, slice_get}, lemmas.List.{append_assoc, take_more}, lemmas.Option.slice_get_cases}
 use Rattle.dim_hierarchy.specs.{Dimension.Dimension, declared.row.Row.Row}
 use Rattle.dc_node.specs.{declared.block.Block.Block, declared.todo.Item.Item}
-use Rattle.shard_store.specs.declared.gate.Gate.{Gate}
-use Rattle.shard_store.specs.declared.gate.Phase.TheVariants as phase
-use Rattle.tree_shape.specs.{Collecting.IsCollecting, Laws.{ReadLaw, ReadableLaw}, Shape.numbers}
-use Rattle.volap_cell.specs.{AdminKinds.{CollectsBlock, CollectsQueued, DoesCollect, HasJob}, Cells.{BlockCell, CellValue, GateCell, has_block, phase_of, queue_in}, Growing.table_of, Steps.{IsHere, Keeps, Makes}, Stocking.cells_at, Values.{ActorValue, CollectingValue, JobValue, Collects}, View.view, World.{Agrees, Change, change, held}, declared.kind.Kind.TheVariants.Collect}
+use Rattle.core_tree.specs.shard_store.specs.declared.gate.Gate.{Gate}
+use Rattle.core_tree.specs.shard_store.specs.declared.gate.Phase.TheVariants as phase
+use Rattle.core_tree.specs.tree_shape.specs.{Collecting.IsCollecting, Laws.{ReadLaw, ReadableLaw}, Shape.numbers}
+use Rattle.core_tree.specs.volap_cell.specs.{AdminKinds.{CollectsBlock, CollectsQueued, DoesCollect, HasJob}, Cells.{BlockCell, CellValue, GateCell, has_block, phase_of, queue_in}, Growing.table_of, Steps.{IsHere, Keeps, Makes}, Stocking.cells_at, Values.{ActorValue, CollectingValue, JobValue, Collects}, View.view, World.{Agrees, Change, change, held}, declared.kind.Kind.TheVariants.Collect}
 use Rattle.core_admin.specs.CollectDue.{CanCollectBlock, CanCollectRow, CollectsRow, HasMore, HasNoted, ReadsBlock}
 use Rattle.core_admin.proofs.{Collecting.CollectsBlocks.{block-kept, none-left}, Collecting.CollectsRows.queued-kept, Collecting.CollectsTrees.all-kept, Collecting.Drains.same-collecting, Collecting.FrozenGates.phase-gate, Collecting.SoFar.{gate-of, so-far}}
 

@@ -1,10 +1,10 @@
 -- With nothing noted any more, the next row of the queue is collected.
 use Rattle.std.proofs.{Common.{◌≡◌, ℕ, ◌+◌, List, [], ◌∷◌, ◌++◌, take, Some, refl, sym, ap, ◌∙◌, arith, append_assoc, slice_get}, lemmas.List.take_more, lemmas.Option.{get_or_from_slice_get, slice_get_within}}
 use Rattle.dim_hierarchy.specs.declared.row.Row.{Row}
-use Rattle.shard_store.specs.declared.gate.Phase.TheVariants as phase
-use Rattle.shard_store.specs.declared.queue.Queue.{Queue}
-use Rattle.volap_cell.specs.{AdminKinds.CollectsQueued, Cells.{GateCell, phase_of, queue_in}, Falls.{frozen_upto, stage_left}, Ghost.Ghost, Invariant.InvWith, Kinds.Does, Setting.Setting, Steps.IsKept, Stocking.items_in, Values.{ActorValue, CollectingValue, Collects}, View.{View, view}, Working.IsCollected, World.{Agrees, Change, World, after}, declared.kind.Kind.TheVariants.Collect}
-use Rattle.volap_cell.proofs.Views.Admin.{view-collect_queued}
+use Rattle.core_tree.specs.shard_store.specs.declared.gate.Phase.TheVariants as phase
+use Rattle.core_tree.specs.shard_store.specs.declared.queue.Queue.{Queue}
+use Rattle.core_tree.specs.volap_cell.specs.{AdminKinds.CollectsQueued, Cells.{GateCell, phase_of, queue_in}, Falls.{frozen_upto, stage_left}, Ghost.Ghost, Invariant.InvWith, Kinds.Does, Setting.Setting, Steps.IsKept, Stocking.items_in, Values.{ActorValue, CollectingValue, Collects}, View.{View, view}, Working.IsCollected, World.{Agrees, Change, World, after}, declared.kind.Kind.TheVariants.Collect}
+use Rattle.core_tree.specs.volap_cell.proofs.Views.Admin.{view-collect_queued}
 use Rattle.core_admin.proofs.{Collecting.SoFar.{goes-on, none-spent, so-far}, Collecting.Stages.{job-fresh, job-waits}, Jobs.Stages.{IsNewStage, Stages, stage-goes_on, stage-history, stage-holds}}
 
 row-there : (rows : List Row) (k : ℕ) (r : Row) → slice_get rows k ≡ Some r → take (k + 1) rows ≡ take k rows ++ r ∷ []

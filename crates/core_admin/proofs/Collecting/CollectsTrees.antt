@@ -3,14 +3,14 @@ use Rattle.std.proofs.{Common.{◌≡◌, ◌≢◌, ℕ, ◌+◌, ◌*◌, ◌<
 use Rattle.cell_stock.specs.{Stock.{cells_of, stamps_of}, declared.purse.Spare.Spare}
 use Rattle.dim_hierarchy.specs.declared.row.Row.{Row}
 use Rattle.dc_node.specs.declared.todo.Item.{Item}
-use Rattle.link_descent.specs.declared.entered.Fresh.{Fresh}
-use Rattle.shard_build.specs.Building.{spare_of}
-use Rattle.shard_store.specs.declared.gate.Phase.TheVariants as phase
-use Rattle.tree_shape.specs.{Collecting.IsCollecting, Shape.{nodes, numbers}}
+use Rattle.core_tree.specs.link_descent.specs.declared.entered.Fresh.{Fresh}
+use Rattle.core_tree.specs.shard_build.specs.Building.{spare_of}
+use Rattle.core_tree.specs.shard_store.specs.declared.gate.Phase.TheVariants as phase
+use Rattle.core_tree.specs.tree_shape.specs.{Collecting.IsCollecting, Shape.{nodes, numbers}}
 use Rattle.list_words.specs.Counts.{Among, times}
 use Rattle.list_words.proofs.{Each.{each-map, among-left, each-append}, Truth.on_bool}
-use Rattle.volap_cell.specs.{AdminKinds.{CollectsAll, IsBuiltOf, spent_in}, Cells.phase_of, Errands.RowWay, Falls.{Falls, gone_left, job_left, left, plenty, stage_left}, Ghost.{AGate, Ghost, InJob, InPurse, InTree, NotOfStock, Owner, Unused, is_in_purse}, Invariant.InvWith, Kinds.Does, Setting.{Setting, cell_count}, Steps.IsKept, Stocking.{all_spares, cells_at, items_in, spent_of}, Turning.Turning, Values.{ActorValue, BuildingValue, StageValue, Builds, Collects, IsDeclined}, View.{View, view}, Working.{IsBuilding, IsCollected, IsFrozenFor, frozen_in}, World.{Agrees, Change, World, after}, declared.job.Frozen.Frozen, declared.kind.Kind.TheVariants.Collect}
-use Rattle.volap_cell.proofs.{Counting.length-few, Persons.has-job, Views.Admin.{by_job_purse, view-collect_all}, Views.Fields.{IsNewAt, actor-new}, Views.Frames.{actor-at, actor-off}, Views.Seen.renewed}
+use Rattle.core_tree.specs.volap_cell.specs.{AdminKinds.{CollectsAll, IsBuiltOf, spent_in}, Cells.phase_of, Errands.RowWay, Falls.{Falls, gone_left, job_left, left, plenty, stage_left}, Ghost.{AGate, Ghost, InJob, InPurse, InTree, NotOfStock, Owner, Unused, is_in_purse}, Invariant.InvWith, Kinds.Does, Setting.{Setting, cell_count}, Steps.IsKept, Stocking.{all_spares, cells_at, items_in, spent_of}, Turning.Turning, Values.{ActorValue, BuildingValue, StageValue, Builds, Collects, IsDeclined}, View.{View, view}, Working.{IsBuilding, IsCollected, IsFrozenFor, frozen_in}, World.{Agrees, Change, World, after}, declared.job.Frozen.Frozen, declared.kind.Kind.TheVariants.Collect}
+use Rattle.core_tree.specs.volap_cell.proofs.{Counting.length-few, Persons.has-job, Views.Admin.{by_job_purse, view-collect_all}, Views.Fields.{IsNewAt, actor-new}, Views.Frames.{actor-at, actor-off}, Views.Seen.renewed}
 use Rattle.core_admin.proofs.{Building.Spends.{Spends, built-spends, cells-spent, length-spent, stamps-once, stamps-spent}, Collecting.Freezings.wayless, Collecting.FrozenGates.IsGateOf, Collecting.SoFar.{gate-of, its, so-far}, Jobs.Controls.control-falls, Jobs.Staging.{IsAtWork, others-jobless, staged-balancing, staged-numbering, staged-telling, staged-working}, Purses.{Reshares, reshared, reshared-stamping, reshared-stocking}}
 
 same-building : (k j : BuildingValue) → Builds k ≡ Builds j → k ≡ j

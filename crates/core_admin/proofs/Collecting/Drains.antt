@@ -2,11 +2,11 @@
 use Rattle.std.proofs.Common.{◌≡◌, ◌≢◌, ℕ, ◌+◌, ◌-◌, ◌*◌, ◌^◌, ◌<◌, List, [], ◌∷◌, length, Some, None, refl, sym, ap, ◌∙◌, subst, arith}
 use Rattle.cell_stock.specs.declared.purse.Spare.{Spare}
 use Rattle.dim_hierarchy.specs.Dimension.{Dimension}
-use Rattle.shard_store.specs.declared.gate.Gate.{Gate}
-use Rattle.tree_shape.specs.{Collecting.{root_item, IsCollecting}, Laws.CollectBeginLaw, Queries.NoneWaits, Shape.nodes, Steps.IsSpare}
+use Rattle.core_tree.specs.shard_store.specs.declared.gate.Gate.{Gate}
+use Rattle.core_tree.specs.tree_shape.specs.{Collecting.{root_item, IsCollecting}, Laws.CollectBeginLaw, Queries.NoneWaits, Shape.nodes, Steps.IsSpare}
 use Rattle.list_words.proofs.Each.{each-map}
-use Rattle.volap_cell.specs.{AdminKinds.{DoesDrained, cells_needed, spent_in}, Cells.{CellValue, GateCell, active_in, phase_of, way_in, way_to_tree}, Falls.{frozen_upto, plenty, stage_left}, Ghost.Ghost, Growing.table_of, Invariant.InvWith, Setting.{Setting, cell_count}, Steps.{IsHere, IsKept, Keeps, Makes}, Stocking.{all_spares, cells_at}, Values.{ActorValue, CollectingValue, JobValue, StageValue, Builds, Collects, IsDeclined, IsFrozen}, View.{View, view}, Working.{IsCollected, IsFrozenFor, frozen_in}, World.{Agrees, Change, World, after, change, held}, declared.job.Frozen.Frozen, declared.kind.Kind.TheVariants.Drained}
-use Rattle.volap_cell.proofs.Views.Admin.{view-drained}
+use Rattle.core_tree.specs.volap_cell.specs.{AdminKinds.{DoesDrained, cells_needed, spent_in}, Cells.{CellValue, GateCell, active_in, phase_of, way_in, way_to_tree}, Falls.{frozen_upto, plenty, stage_left}, Ghost.Ghost, Growing.table_of, Invariant.InvWith, Setting.{Setting, cell_count}, Steps.{IsHere, IsKept, Keeps, Makes}, Stocking.{all_spares, cells_at}, Values.{ActorValue, CollectingValue, JobValue, StageValue, Builds, Collects, IsDeclined, IsFrozen}, View.{View, view}, Working.{IsCollected, IsFrozenFor, frozen_in}, World.{Agrees, Change, World, after, change, held}, declared.job.Frozen.Frozen, declared.kind.Kind.TheVariants.Drained}
+use Rattle.core_tree.specs.volap_cell.proofs.Views.Admin.{view-drained}
 use Rattle.core_admin.specs.FreezeDue.{BeginsCollecting, CanDrain}
 use Rattle.core_admin.proofs.{Collecting.FrozenGates.{IsGateOf, frozen-gate, phase-gate, root-unexpected, spares-each, upto-few}, Jobs.Stages.{IsNewStage, Stages, stage-goes_on, stage-history, stage-holds}, Jobs.Staging.IsAtWork}
 

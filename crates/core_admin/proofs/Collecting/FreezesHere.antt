@@ -5,10 +5,10 @@ use Rattle.dim_hierarchy.specs.Dimension.{Dimension}
 use Rattle.describing_set.specs.{Sets.IsDescSetOf, declared.plane.Plane.Plane}
 use Rattle.mapping_table.specs.declared.place.Where.TheVariants as where_is
 use Rattle.row_ledger.specs.{Workers.is_on, declared.settings.Decline.Decline, declared.settings.Decline.TheVariants.{NoCell, OnePlace}}
-use Rattle.shard_store.specs.{declared.gate.Gate.Gate, declared.gate.Phase.Phase, declared.queue.Queue.Queue}
-use Rattle.tree_shape.specs.Laws.{GateLaw}
-use Rattle.volap_cell.specs.{AdminKinds.{Declines, DoesFreeze, Freezes, cells_needed, rows_at}, Cells.{CellValue, GateCell, StockCell, gate_shard, phase_of, queue_in, way_in, way_to_tree}, Setting.Setting, Steps.{IsHere, Makes}, TreeKinds.Leads, Values.{ActorValue, JobValue}, View.{View, view}, Working.frozen_in, World.{Change, change, held}, declared.kind.Kind.TheVariants.Freeze}
-use Rattle.volap_cell.proofs.Views.Shown.{held-leads}
+use Rattle.core_tree.specs.shard_store.specs.{declared.gate.Gate.Gate, declared.gate.Phase.Phase, declared.queue.Queue.Queue}
+use Rattle.core_tree.specs.tree_shape.specs.Laws.{GateLaw}
+use Rattle.core_tree.specs.volap_cell.specs.{AdminKinds.{Declines, DoesFreeze, Freezes, cells_needed, rows_at}, Cells.{CellValue, GateCell, StockCell, gate_shard, phase_of, queue_in, way_in, way_to_tree}, Setting.Setting, Steps.{IsHere, Makes}, TreeKinds.Leads, Values.{ActorValue, JobValue}, View.{View, view}, Working.frozen_in, World.{Change, change, held}, declared.kind.Kind.TheVariants.Freeze}
+use Rattle.core_tree.specs.volap_cell.proofs.Views.Shown.{held-leads}
 use Rattle.core_admin.specs.FreezeDue.{CanFreeze, DeclinesJob, FreezesFor, FreezesGate, IsFreezable}
 use Rattle.core_admin.proofs.{Collecting.FreezesShard.freeze-keeps, Collecting.FrozenGates.{gate-of, shard-gate}, Collecting.ShardRows.{rows-count, rows-few, tree-set}}
 

@@ -4,11 +4,11 @@ use Rattle.cell_stock.specs.declared.purse.Spare.{Spare}
 use Rattle.dim_hierarchy.specs.{Dimension.Dimension, declared.row.Row.Row}
 use Rattle.describing_set.specs.{Sets.JoinsTo, declared.plane.Plane.Plane}
 use Rattle.row_ledger.specs.{Work.IsCause, Workers.is_on, declared.settings.Decline.Decline, declared.settings.Decline.TheVariants.{OnePlace, NoCell}}
-use Rattle.shard_store.specs.{declared.gate.Gate.Gate, declared.queue.Queue.Queue}
-use Rattle.tree_shape.specs.{Laws.GateLaw, Queries.NoneWaits}
+use Rattle.core_tree.specs.shard_store.specs.{declared.gate.Gate.Gate, declared.queue.Queue.Queue}
+use Rattle.core_tree.specs.tree_shape.specs.{Laws.GateLaw, Queries.NoneWaits}
 use Rattle.list_words.proofs.Each.{each-here}
-use Rattle.volap_cell.specs.{AdminKinds.{spent_in, Declines, DoesFreeze, Freezes, HasOnePlace, IsDivided, cells_needed, rows_at}, Cells.{GateCell, MapOf, tag_of, queue_in, way_in, way_to_tree}, Falls.{plenty, stage_left}, Ghost.Ghost, Invariant.InvWith, Setting.Setting, Steps.{IsKept, Keeps}, Stocking.all_spares, Values.{ActorValue, StageValue, IsDeclined, Collects, Builds}, View.{View, view}, Working.{IsDeclinedFor, action_of, action_to}, World.{Agrees, Change, World, after}, declared.kind.Kind.TheVariants.Freeze}
-use Rattle.volap_cell.proofs.{Views.Admin.view-decline, Views.Shown.held-leads}
+use Rattle.core_tree.specs.volap_cell.specs.{AdminKinds.{spent_in, Declines, DoesFreeze, Freezes, HasOnePlace, IsDivided, cells_needed, rows_at}, Cells.{GateCell, MapOf, tag_of, queue_in, way_in, way_to_tree}, Falls.{plenty, stage_left}, Ghost.Ghost, Invariant.InvWith, Setting.Setting, Steps.{IsKept, Keeps}, Stocking.all_spares, Values.{ActorValue, StageValue, IsDeclined, Collects, Builds}, View.{View, view}, Working.{IsDeclinedFor, action_of, action_to}, World.{Agrees, Change, World, after}, declared.kind.Kind.TheVariants.Freeze}
+use Rattle.core_tree.specs.volap_cell.proofs.{Views.Admin.view-decline, Views.Shown.held-leads}
 use Rattle.core_admin.proofs.{Collecting.Freezings.{IsAtGate, frozen-falls, frozen-history, frozen-holds}, Collecting.Planes.few-everywhere, Collecting.ShardRows.{rows as rows-of, rows-count, rows-read, rows-set, set-valid}, Jobs.Stages.{IsNewStage, Stages, stage-goes_on, stage-history, stage-holds}, Purses.reshared}
 
 -- fewer cells are free than the action needs for so many rows

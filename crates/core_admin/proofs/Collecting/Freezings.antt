@@ -4,12 +4,12 @@ use Rattle.std.specs.List.{AllByRecursion, IsDistinct, range_with_len}
 use Rattle.cell_stock.specs.{Stock.{IsStock, StockValue, cells_of, stamps_of}, declared.purse.Spare.Spare}
 use Rattle.cell_stock.proofs.Cells.{IsDistinct-range, Takes-AreFresh}
 use Rattle.describing_set.specs.{Plane.IsPlaneOf, Sets.IsDescSetOf, declared.plane.Plane.Plane, declared.set.DescSet.DescSet}
-use Rattle.shard_store.specs.{declared.gate.Gate.Gate, declared.gate.Phase.Phase, declared.queue.Queue.Queue}
-use Rattle.shard_store.specs.declared.gate.Phase.TheVariants as phase
+use Rattle.core_tree.specs.shard_store.specs.{declared.gate.Gate.Gate, declared.gate.Phase.Phase, declared.queue.Queue.Queue}
+use Rattle.core_tree.specs.shard_store.specs.declared.gate.Phase.TheVariants as phase
 use Rattle.list_words.specs.Counts.{Among, Each, times}
 use Rattle.list_words.proofs.{Each.each-map, Times.{times-append, same_is, same_not}, Truth.on_bool}
-use Rattle.volap_cell.specs.{AdminKinds.{Freezes, IsDivided, cells_needed, rows_at}, Cells.{GateCell, MapOf, OfStock, TheStock, phase_of, queue_in, tag_of, way_in, way_to_tree}, Errands.{RowWay, Taken, taken_of, way_of}, Falls.{Falls, gone_left, job_left, left, plenty, stage_left}, Ghost.Ghost, Growing.Queueing, Invariant.InvWith, Lineage.Lineage, Reusing.is_gone, Setting.Setting, Stocking.{IsWhole, items_in, spent_of}, Turning.{IsIn, Turning}, Values.{ActorValue, ErrandValue, JobValue, StageValue, IsCalled, IsDeclined, IsFrozen, Collects, Builds}, View.{View, view}, Working.{IsFrozenFor, frozen_in}, World.{Agrees, Change, World, after}, declared.job.Frozen.Frozen}
-use Rattle.volap_cell.proofs.{Cells.Past.stock-past, Persons.has-job, Reusing.stands-off, Views.Admin.{by_freeze, view-freeze}, Views.Fields.{IsNew, IsNewAt, actor-new}, Views.Frames.{actor-at, actor-off}, Views.Gates.gate-behind, Views.Seen.renewed}
+use Rattle.core_tree.specs.volap_cell.specs.{AdminKinds.{Freezes, IsDivided, cells_needed, rows_at}, Cells.{GateCell, MapOf, OfStock, TheStock, phase_of, queue_in, tag_of, way_in, way_to_tree}, Errands.{RowWay, Taken, taken_of, way_of}, Falls.{Falls, gone_left, job_left, left, plenty, stage_left}, Ghost.Ghost, Growing.Queueing, Invariant.InvWith, Lineage.Lineage, Reusing.is_gone, Setting.Setting, Stocking.{IsWhole, items_in, spent_of}, Turning.{IsIn, Turning}, Values.{ActorValue, ErrandValue, JobValue, StageValue, IsCalled, IsDeclined, IsFrozen, Collects, Builds}, View.{View, view}, Working.{IsFrozenFor, frozen_in}, World.{Agrees, Change, World, after}, declared.job.Frozen.Frozen}
+use Rattle.core_tree.specs.volap_cell.proofs.{Cells.Past.stock-past, Persons.has-job, Reusing.stands-off, Views.Admin.{by_freeze, view-freeze}, Views.Fields.{IsNew, IsNewAt, actor-new}, Views.Frames.{actor-at, actor-off}, Views.Gates.gate-behind, Views.Seen.renewed}
 use Rattle.core_admin.proofs.{Jobs.Controls.control-falls, Jobs.Staging.{IsAtWork, others-jobless, staged-balancing, staged-numbering, staged-telling, staged-working}, Purses.{Reshares, reshared, reshared-stamping, reshared-stocking}}
 
 -- Spares that were just taken.

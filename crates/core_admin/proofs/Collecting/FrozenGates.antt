@@ -4,13 +4,13 @@ use Rattle.cell_stock.specs.declared.purse.Spare.{Spare}
 use Rattle.dc_node.specs.declared.entry.Entry.{Entry}
 use Rattle.dim_hierarchy.specs.declared.row.Row.{Row}
 use Rattle.row_ledger.specs.{Shards.is_live, Workers.is_on}
-use Rattle.shard_store.specs.{declared.gate.Gate.Gate, declared.gate.Phase.Phase}
-use Rattle.shard_store.specs.declared.gate.Phase.TheVariants as phase
+use Rattle.core_tree.specs.shard_store.specs.{declared.gate.Gate.Gate, declared.gate.Phase.Phase}
+use Rattle.core_tree.specs.shard_store.specs.declared.gate.Phase.TheVariants as phase
 use Rattle.list_words.specs.Counts.{Each, same, times}
 use Rattle.list_words.proofs.{Times.same-le, Truth.{on_bool, eqb-self}}
-use Rattle.tree_shape.specs.{Shape.{Shape, TreeCells, Node, Table, nodes, gate_node, node_of, numbers}, Steps.{AreSpares, IsSpare}, Trees.IsTree}
-use Rattle.volap_cell.specs.{Cells.{CellValue, FreeCell, LedgerCell, StockCell, RegistryCell, ImageCell, DeskCell, MapCell, GateCell, BlockCell, gate_shard, phase_of}, Ghost.Ghost, Growing.table_of, Invariant.InvWith, Setting.Setting, Stocking.{IsWhole, cells_at}, Values.JobValue, View.View, Working.{IsFrozenFor, frozen_in}, declared.job.Frozen.Frozen}
-use Rattle.volap_cell.proofs.{Counting.length-few, OneEvent.Older.insert-within}
+use Rattle.core_tree.specs.tree_shape.specs.{Shape.{Shape, TreeCells, Node, Table, nodes, gate_node, node_of, numbers}, Steps.{AreSpares, IsSpare}, Trees.IsTree}
+use Rattle.core_tree.specs.volap_cell.specs.{Cells.{CellValue, FreeCell, LedgerCell, StockCell, RegistryCell, ImageCell, DeskCell, MapCell, GateCell, BlockCell, gate_shard, phase_of}, Ghost.Ghost, Growing.table_of, Invariant.InvWith, Setting.Setting, Stocking.{IsWhole, cells_at}, Values.JobValue, View.View, Working.{IsFrozenFor, frozen_in}, declared.job.Frozen.Frozen}
+use Rattle.core_tree.specs.volap_cell.proofs.{Counting.length-few, OneEvent.Older.insert-within}
 
 -- a cell with a phase is a gate
 pub phase-gate : (c : CellValue) (p : Phase) → phase_of c ≡ Some p → (x : Gate) × (c ≡ GateCell x)

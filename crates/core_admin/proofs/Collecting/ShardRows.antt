@@ -10,9 +10,9 @@ use Rattle.row_ledger.specs.{Bounds.may, Past.{Ack, Insert, acked, acked_into, b
 use Rattle.row_ledger.proofs.{Answering.All-acked_before, Descent.{comes_from-self, live-last, live-made}, Older.begun-older}
 use Rattle.list_words.proofs.{Elements.{Contains-filter, Contains-filtered, IsTrue-filtered, Contains-nil}, Times.{times-append, same_is, same_not}, Truth.on_bool}
 use Rattle.list_words.specs.Counts.{Each, same, times}
-use Rattle.tree_shape.specs.{Laws.GateLaw, Shape.numbers}
-use Rattle.volap_cell.specs.{Ghost.Ghost, Growing.{IsUnder, table_of}, Invariant.InvWith, Setting.{Setting, site_in}, Stocking.cells_at, View.{View, view, row_or}, World.World}
-use Rattle.volap_cell.proofs.{Counting.{length-few, passing, passing-once}, Histories.Knowing.acked-begun}
+use Rattle.core_tree.specs.tree_shape.specs.{Laws.GateLaw, Shape.numbers}
+use Rattle.core_tree.specs.volap_cell.specs.{Ghost.Ghost, Growing.{IsUnder, table_of}, Invariant.InvWith, Setting.{Setting, site_in}, Stocking.cells_at, View.{View, view, row_or}, World.World}
+use Rattle.core_tree.specs.volap_cell.proofs.{Counting.{length-few, passing, passing-once}, Histories.Knowing.acked-begun}
 use Rattle.core_admin.proofs.Collecting.FrozenGates.{IsGateOf, began-within, gate-on}
 
 -- Lists of rows.

@@ -5,7 +5,7 @@ use Rattle.dim_hierarchy.specs.declared.row.Row.{Row}
 use Rattle.row_ledger.specs.declared.event.Event.{Event}
 use Rattle.list_words.specs.Counts.{Each}
 use Rattle.list_words.proofs.Each.{each-map}
-use Rattle.volap_cell.specs.{AdminKinds.{HasJob, cells_needed, spent_in}, Ghost.Ghost, Invariant.InvWith, Setting.Setting, Values.{CollectingValue, JobValue, StageValue, Builds, Collects, IsDeclined}, View.{View, view, row_at, row_or}, Working.{IsCollected, IsFrozenFor, frozen_in, HasBegun}, World.World}
+use Rattle.core_tree.specs.volap_cell.specs.{AdminKinds.{HasJob, cells_needed, spent_in}, Ghost.Ghost, Invariant.InvWith, Setting.Setting, Values.{CollectingValue, JobValue, StageValue, Builds, Collects, IsDeclined}, View.{View, view, row_at, row_or}, Working.{IsCollected, IsFrozenFor, frozen_in, HasBegun}, World.World}
 use Rattle.core_admin.proofs.{Collecting.Drains.{same-collecting, still-frozen}, Collecting.FrozenGates.{IsGateOf, frozen-gate}, Jobs.Staging.IsAtWork}
 
 -- rows of inserts that began are those of their numbers

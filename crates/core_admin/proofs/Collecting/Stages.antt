@@ -3,12 +3,12 @@ use Rattle.std.proofs.{Common.{◌≡◌, ◌≢◌, ℕ, zero, suc, ◌<◌, �
 use Rattle.std.specs.Option.{option_map_or}
 use Rattle.cell_stock.specs.declared.purse.Spare.{Spare}
 use Rattle.dc_node.specs.{Block.{entries_in, is_leaf}, declared.block.Block.Block, declared.block.Body.Body, declared.block.Body.TheVariants.{Rows, Entries}, declared.entry.Entry.Entry, declared.todo.Item.Item}
-use Rattle.link_descent.specs.Visit.{noted_right}
-use Rattle.tree_shape.specs.{Collecting.{IsCollecting, IsReadable, entry_items}, Queries.NoneWaits, Shape.{Node, Shape, Table, TreeCells, gate_node, node_of, nodes}, Trees.IsTree}
+use Rattle.core_tree.specs.link_descent.specs.Visit.{noted_right}
+use Rattle.core_tree.specs.tree_shape.specs.{Collecting.{IsCollecting, IsReadable, entry_items}, Queries.NoneWaits, Shape.{Node, Shape, Table, TreeCells, gate_node, node_of, nodes}, Trees.IsTree}
 use Rattle.list_words.specs.Counts.{Each, times}
 use Rattle.list_words.proofs.{Each.{each-map, each-append, each-left, each-right}, Truth.on_bool}
-use Rattle.volap_cell.specs.{Ghost.{AGate, Ghost, InTree, NotOfStock}, Invariant.InvWith, Setting.{Setting, cell_count}, Stocking.{IsWhole, NoneExpects, all_items, all_spares, items_in, items_of_job, items_of_read}, Values.JobValue, View.View}
-use Rattle.volap_cell.proofs.Counting.{length-few}
+use Rattle.core_tree.specs.volap_cell.specs.{Ghost.{AGate, Ghost, InTree, NotOfStock}, Invariant.InvWith, Setting.{Setting, cell_count}, Stocking.{IsWhole, NoneExpects, all_items, all_spares, items_in, items_of_job, items_of_read}, Values.JobValue, View.View}
+use Rattle.core_tree.specs.volap_cell.proofs.Counting.{length-few}
 
 -- What is noted of a block waits for no stamp that nothing expects.
 

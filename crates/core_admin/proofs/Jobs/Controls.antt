@@ -1,7 +1,7 @@
 -- Less is left of what the controlling stream has, where the one administrator's job has come further.
 use Rattle.std.proofs.Common.{◌≡◌, ◌≢◌, ℕ, ◌+◌, ◌<◌, ◌≤◌, Option, None, ap, ◌∙◌, inl, arith}
-use Rattle.volap_cell.specs.{Falls.{Falls, control_of, gone_left, job_left, left, of_work}, Ghost.Ghost, Setting.{Setting, actor_count, cell_count}, Values.ActorValue, View.view, World.World, declared.command.Command.Command}
-use Rattle.volap_cell.proofs.Sums.{sum-less, sum-same}
+use Rattle.core_tree.specs.volap_cell.specs.{Falls.{Falls, control_of, gone_left, job_left, left, of_work}, Ghost.Ghost, Setting.{Setting, actor_count, cell_count}, Values.ActorValue, View.view, World.World, declared.command.Command.Command}
+use Rattle.core_tree.specs.volap_cell.proofs.Sums.{sum-less, sum-same}
 
 -- the actor n alone has changed, its command is as before, and there is less to do for its job; nobody else has one
 pub record IsFurther (s : Setting) (w w2 : World) (n : ℕ) (b : ActorValue) : Type 0 where

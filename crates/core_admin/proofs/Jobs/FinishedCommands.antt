@@ -3,8 +3,8 @@ use Rattle.std.proofs.{Common.{◌≡◌, ◌≢◌, ℕ, ◌<◌, List, ◌∷�
 use Rattle.row_ledger.specs.{Belonging.number_in, Kept.KeepsRight, Past.{end_in, event_at, has_ended, insert_at, insert_in, is_end_of, query_at, query_in, session_in}, declared.event.Event.Event, declared.event.Event.TheVariants.Ended, declared.settings.How.How}
 use Rattle.row_ledger.proofs.Older.{is_over-older}
 use Rattle.list_words.proofs.Truth.{on_bool}
-use Rattle.volap_cell.specs.{Setting.{Setting, site_in}, Telling.{IsProgress, Telling}, Values.JobValue, declared.command.Command.Command, declared.role.Role.Role}
-use Rattle.volap_cell.proofs.{OneEvent.Older.kind-same, OneEvent.Told.{commands-older, ended-same, progress-grown}, Views.Fields.IsNewAt}
+use Rattle.core_tree.specs.volap_cell.specs.{Setting.{Setting, site_in}, Telling.{IsProgress, Telling}, Values.JobValue, declared.command.Command.Command, declared.role.Role.Role}
+use Rattle.core_tree.specs.volap_cell.proofs.{OneEvent.Older.kind-same, OneEvent.Told.{commands-older, ended-same, progress-grown}, Views.Fields.IsNewAt}
 use Rattle.core_image.proofs.Commands.Ends.{only-its}
 
 -- A command notes an event that is no beginning and no end, and ends with the next one.

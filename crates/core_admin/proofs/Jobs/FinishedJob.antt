@@ -2,13 +2,13 @@
 -- the queue later.
 use Rattle.std.proofs.{Common.{◌≡◌, ℕ, zero, suc, ◌+◌, ◌≤◌, Bool, true, false, cond, eqb, List, [], ◌∷◌, ◌++◌, take, drop, Some, IsSome, refl, sym, ap, ◌∙◌, subst, inl, inr, arith}, lemmas.Bool.eqb-true, lemmas.List.map-append}
 use Rattle.dim_hierarchy.specs.{Rows.IsRowOf, declared.row.Row.Row}
-use Rattle.link_descent.specs.declared.entered.Fresh.{Fresh}
+use Rattle.core_tree.specs.link_descent.specs.declared.entered.Fresh.{Fresh}
 use Rattle.row_ledger.specs.{Shards.is_live, Workers.is_on}
-use Rattle.shard_store.specs.{declared.gate.Gate.Gate, declared.gate.Phase.TheVariants.{Frozen, Gone}}
+use Rattle.core_tree.specs.shard_store.specs.{declared.gate.Gate.Gate, declared.gate.Phase.TheVariants.{Frozen, Gone}}
 use Rattle.list_words.specs.Counts.{Among, Each, same, times}
 use Rattle.list_words.proofs.{Each.{each-both, each-append, each-here, each-left, each-right}, Times.{times-append, same_is}}
-use Rattle.tree_shape.specs.{Collecting.AfterCollecting, Laws.CollectEndLaw, Shape.numbers}
-use Rattle.volap_cell.specs.{AdminKinds.{spent_by, spent_in}, Cells.{GateCell, phase_of, queue_in}, Ghost.{AGate, Ghost, InJob, InPurse, InTree, NotOfStock, Owner, Unused, is_in_job}, Growing.table_of, Invariant.InvWith, Setting.Setting, Stocking.{IsWhole, cells_at, spent_of}, Values.{BuildingValue, Builds, JobValue}, View.{View, row_or, view}, Working.{IsBuilding, IsFrozenFor, frozen_in}, World.World}
+use Rattle.core_tree.specs.tree_shape.specs.{Collecting.AfterCollecting, Laws.CollectEndLaw, Shape.numbers}
+use Rattle.core_tree.specs.volap_cell.specs.{AdminKinds.{spent_by, spent_in}, Cells.{GateCell, phase_of, queue_in}, Ghost.{AGate, Ghost, InJob, InPurse, InTree, NotOfStock, Owner, Unused, is_in_job}, Growing.table_of, Invariant.InvWith, Setting.Setting, Stocking.{IsWhole, cells_at, spent_of}, Values.{BuildingValue, Builds, JobValue}, View.{View, row_or, view}, Working.{IsBuilding, IsFrozenFor, frozen_in}, World.World}
 use Rattle.core_admin.proofs.{Building.NewTree.is-true, Collecting.SoFar.begun-named}
 
 -- Lists.

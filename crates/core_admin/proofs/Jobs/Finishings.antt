@@ -2,7 +2,7 @@
 use Rattle.std.proofs.Common.{◌≡◌, ◌∙◌, ℕ, Bool, true, List, Option, Some, None, refl}
 use Rattle.row_ledger.specs.Work.{shard_of}
 use Rattle.shard_plan.specs.declared.action.Load.{Load}
-use Rattle.volap_cell.specs.{Commands.stands_after, Planning.has_load, declared.command.Command.Command}
+use Rattle.core_tree.specs.volap_cell.specs.{Commands.stands_after, Planning.has_load, declared.command.Command.Command}
 use Rattle.core_admin.specs.FinishDue.{CountsDone, MayGoOnDone, with_one_done}
 use Rattle.core_image.specs.NotesDue.{MayGoOn}
 use Rattle.core_admin.proofs.PlansAhead.{has-moved}

@@ -2,9 +2,9 @@
 use Rattle.std.proofs.{Common.{◌≡◌, ◌≢◌, ℕ, ◌<◌, List, eqb, Option, Some, None, is_some, sym, ap, ◌∙◌, subst, arith}, lemmas.Bool.{eqb-true, eqb-false}}
 use Rattle.row_ledger.specs.declared.event.Event.{Event}
 use Rattle.list_words.proofs.Truth.{on_bool}
-use Rattle.volap_cell.specs.{Ghost.Ghost, Invariant.InvWith, Numbering.Numbering, Setting.{Setting, actor_count}, Telling.{IsProgress, Telling}, Values.{JobValue, StageValue}, View.View, Working.{Balancing, IsJobOf}, declared.command.Work.Work, declared.role.Role.Role, declared.role.Role.TheVariants.Admin}
-use Rattle.volap_cell.specs.declared.command.Work.TheVariants as work_is
-use Rattle.volap_cell.proofs.{Persons.has-job, Views.Fields.IsNewAt}
+use Rattle.core_tree.specs.volap_cell.specs.{Ghost.Ghost, Invariant.InvWith, Numbering.Numbering, Setting.{Setting, actor_count}, Telling.{IsProgress, Telling}, Values.{JobValue, StageValue}, View.View, Working.{Balancing, IsJobOf}, declared.command.Work.Work, declared.role.Role.Role, declared.role.Role.TheVariants.Admin}
+use Rattle.core_tree.specs.volap_cell.specs.declared.command.Work.TheVariants as work_is
+use Rattle.core_tree.specs.volap_cell.proofs.{Persons.has-job, Views.Fields.IsNewAt}
 
 -- of a command it is seen only whether there is a job
 pub progress-alike : (s : Setting) (h : List Event) (of : ℕ) (work : Work) (job job_now : Option JobValue) (role : Role) → is_some job_now ≡ is_some job → IsProgress s h of work job role → IsProgress s h of work job_now role

@@ -3,12 +3,12 @@ use Rattle.std.proofs.{Common.{◌≡◌, ◌≢◌, ℕ, ◌*◌, ◌<◌, ◌�
 use Rattle.cell_stock.specs.declared.purse.Spare.{Spare}
 use Rattle.dc_node.specs.declared.block.Block.{Block}
 use Rattle.row_ledger.specs.{Workers.is_on, declared.event.Event.Event}
-use Rattle.shard_store.specs.{declared.gate.Gate.Gate, declared.gate.Phase.Phase, declared.queue.Queue.Queue}
-use Rattle.tree_shape.specs.Shape.{Shape}
+use Rattle.core_tree.specs.shard_store.specs.{declared.gate.Gate.Gate, declared.gate.Phase.Phase, declared.queue.Queue.Queue}
+use Rattle.core_tree.specs.tree_shape.specs.Shape.{Shape}
 use Rattle.list_words.proofs.Truth.{on_bool}
-use Rattle.volap_cell.specs.{Commands.after_action, Falls.{job_left, plenty, stage_left, actions_left, control_of}, Ghost.Ghost, Invariant.InvWith, Numbering.Numbering, Owing.{is_insert, is_insert_work}, Planning.{job_for, next_job}, Setting.Setting, Values.{JobValue, IsCalled, IsDeclined, Collects, Builds}, View.View, Working.{IsBuilding, IsCollected, IsDeclinedFor, IsFrozenFor, IsJobOf, Working, frozen_in, Balancing, IsBalancing}, declared.command.Balance.Balance, declared.command.Command.Command, declared.command.Work.Work, declared.role.Role.TheVariants.Admin}
-use Rattle.volap_cell.specs.declared.command.Work.TheVariants as work_is
-use Rattle.volap_cell.proofs.{Persons.has-job, Views.Fields.IsNewAt}
+use Rattle.core_tree.specs.volap_cell.specs.{Commands.after_action, Falls.{job_left, plenty, stage_left, actions_left, control_of}, Ghost.Ghost, Invariant.InvWith, Numbering.Numbering, Owing.{is_insert, is_insert_work}, Planning.{job_for, next_job}, Setting.Setting, Values.{JobValue, IsCalled, IsDeclined, Collects, Builds}, View.View, Working.{IsBuilding, IsCollected, IsDeclinedFor, IsFrozenFor, IsJobOf, Working, frozen_in, Balancing, IsBalancing}, declared.command.Balance.Balance, declared.command.Command.Command, declared.command.Work.Work, declared.role.Role.TheVariants.Admin}
+use Rattle.core_tree.specs.volap_cell.specs.declared.command.Work.TheVariants as work_is
+use Rattle.core_tree.specs.volap_cell.proofs.{Persons.has-job, Views.Fields.IsNewAt}
 use Rattle.core_admin.proofs.{Jobs.JobsGoOn.only-one, Jobs.TurnedCommands.IsOffDesk}
 use Rattle.std.specs.Option.{option_map_or}
 use Rattle.shard_plan.specs.declared.action.Action.{Action}

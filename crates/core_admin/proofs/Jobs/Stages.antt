@@ -2,9 +2,9 @@
 use Rattle.std.proofs.Common.{◌≡◌, ℕ, ◌<◌, ◌≤◌, List, Some, refl, sym, ap, ◌∙◌, subst, inl, arith}
 use Rattle.cell_stock.specs.declared.purse.Spare.{Spare}
 use Rattle.list_words.specs.Counts.{Each}
-use Rattle.tree_shape.specs.Queries.{NoneWaits}
-use Rattle.volap_cell.specs.{AdminKinds.at_stage, Falls.{GoesOn, gone_left, job_left, left, stage_left}, Ghost.Ghost, Invariant.InvWith, Setting.Setting, Steps.history_in, Stocking.{all_spares, items_in, spent_of}, Values.{ActorValue, JobValue, StageValue}, View.{View, view}, World.{World, Change, after}}
-use Rattle.volap_cell.proofs.{OneEvent.Ahead.job-stays, Persons.has-job, Views.Admin.by_job, Views.Fields.{IsNewAt, actor-new}, Views.Frames.{actor-at, actor-off}, Views.Seen.renewed}
+use Rattle.core_tree.specs.tree_shape.specs.Queries.{NoneWaits}
+use Rattle.core_tree.specs.volap_cell.specs.{AdminKinds.at_stage, Falls.{GoesOn, gone_left, job_left, left, stage_left}, Ghost.Ghost, Invariant.InvWith, Setting.Setting, Steps.history_in, Stocking.{all_spares, items_in, spent_of}, Values.{ActorValue, JobValue, StageValue}, View.{View, view}, World.{World, Change, after}}
+use Rattle.core_tree.specs.volap_cell.proofs.{OneEvent.Ahead.job-stays, Persons.has-job, Views.Admin.by_job, Views.Fields.{IsNewAt, actor-new}, Views.Frames.{actor-at, actor-off}, Views.Seen.renewed}
 use Rattle.core_admin.proofs.{Jobs.Controls.control-falls, Jobs.Staging.{IsAtWork, others-jobless, staged-balancing, staged-numbering, staged-stamping, staged-stocking, staged-telling, staged-working}}
 
 -- an actor's job gets to a stage, and the view has nothing else that is new

@@ -3,13 +3,13 @@ use Rattle.std.proofs.{Common.{◌≡◌, ◌≢◌, ℕ, ◌<◌, ◌≤◌, �
 use Rattle.cell_stock.specs.{Stock.{StockValue, cells_of}, declared.purse.Spare.Spare}
 use Rattle.dc_node.specs.{declared.block.Block.Block, declared.todo.Item.Item}
 use Rattle.row_ledger.specs.{Workers.is_on, declared.event.Event.Event, declared.settings.Decline.Decline}
-use Rattle.shard_store.specs.{declared.gate.Gate.Gate, declared.gate.Phase.Phase, declared.queue.Queue.Queue}
+use Rattle.core_tree.specs.shard_store.specs.{declared.gate.Gate.Gate, declared.gate.Phase.Phase, declared.queue.Queue.Queue}
 use Rattle.list_words.specs.Counts.{Each, times}
 use Rattle.list_words.proofs.{Each.{each-both, each-append, each-left}, Truth.on_bool}
-use Rattle.tree_shape.specs.{Queries.NoneWaits, Shape.{Shape, nodes}, Steps.{AreApart, AreSpares}}
-use Rattle.volap_cell.specs.{Errands.ReadPart, Ghost.Owner, Numbering.Numbering, Setting.Setting, Stocking.{LeavesStamp, Stamping, Stocking, all_items, all_spares, cells_at, items_in, items_of_job, items_of_read, spent_of}, Telling.{IsProgress, Telling}, Values.{JobValue, StageValue, IsDeclined, Collects, Builds, CollectingValue, BuildingValue}, View.View, Working.{Balancing, IsBuilding, IsCollected, IsDeclinedFor, IsFrozenFor, IsJobOf, Working, frozen_in}, declared.command.Command.Command, declared.command.Work.Work, declared.job.Frozen.Frozen, declared.role.Role.Role, declared.role.Role.TheVariants.Admin}
-use Rattle.volap_cell.specs.declared.command.Work.TheVariants as work_is
-use Rattle.volap_cell.proofs.{Persons.{IsNumbered, has-job}, Views.Fields.IsNewAt}
+use Rattle.core_tree.specs.tree_shape.specs.{Queries.NoneWaits, Shape.{Shape, nodes}, Steps.{AreApart, AreSpares}}
+use Rattle.core_tree.specs.volap_cell.specs.{Errands.ReadPart, Ghost.Owner, Numbering.Numbering, Setting.Setting, Stocking.{LeavesStamp, Stamping, Stocking, all_items, all_spares, cells_at, items_in, items_of_job, items_of_read, spent_of}, Telling.{IsProgress, Telling}, Values.{JobValue, StageValue, IsDeclined, Collects, Builds, CollectingValue, BuildingValue}, View.View, Working.{Balancing, IsBuilding, IsCollected, IsDeclinedFor, IsFrozenFor, IsJobOf, Working, frozen_in}, declared.command.Command.Command, declared.command.Work.Work, declared.job.Frozen.Frozen, declared.role.Role.Role, declared.role.Role.TheVariants.Admin}
+use Rattle.core_tree.specs.volap_cell.specs.declared.command.Work.TheVariants as work_is
+use Rattle.core_tree.specs.volap_cell.proofs.{Persons.{IsNumbered, has-job}, Views.Fields.IsNewAt}
 
 -- One administrator.
 

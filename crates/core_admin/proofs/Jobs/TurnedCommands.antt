@@ -4,10 +4,10 @@ use Rattle.std.specs.Option.{option_map_or}
 use Rattle.query_router.specs.Desk.{DeskValue}
 use Rattle.row_ledger.specs.declared.event.Event.{Event}
 use Rattle.server_image.specs.Image.{ImageValue}
-use Rattle.shard_store.specs.declared.queue.Queue.{Queue}
-use Rattle.tree_shape.specs.Shape.{Shape}
-use Rattle.volap_cell.specs.{Desking.{Desking, is_on_desk}, Errands.{RowWay, Taken}, Owing.is_insert_work, Placing.{Inserting, Placing}, Setting.Setting, declared.command.Command.Command, declared.command.Work.Work, declared.role.Role.Role}
-use Rattle.volap_cell.proofs.Views.Fields.{IsNewAt}
+use Rattle.core_tree.specs.shard_store.specs.declared.queue.Queue.{Queue}
+use Rattle.core_tree.specs.tree_shape.specs.Shape.{Shape}
+use Rattle.core_tree.specs.volap_cell.specs.{Desking.{Desking, is_on_desk}, Errands.{RowWay, Taken}, Owing.is_insert_work, Placing.{Inserting, Placing}, Setting.Setting, declared.command.Command.Command, declared.command.Work.Work, declared.role.Role.Role}
+use Rattle.core_tree.specs.volap_cell.proofs.Views.Fields.{IsNewAt}
 
 -- no insert, and on no desk
 pub record IsOffDesk (work : Work) : Type 0 where

@@ -4,10 +4,10 @@ use Rattle.std.specs.{List.{AllZip, list_any}, Prelude.{count_by, IsTrue, if◌t
 use Rattle.dim_hierarchy.specs.declared.row.Row.{Row}
 use Rattle.row_ledger.specs.{Past.{Ack, Step, acked, before, work}, Right.{EachEvent, Stands}, Shards.{is_live, comes_from, frontier, is_of, ids_made}, Work.{Reading, Settles, is_done, loads as loads_of}, Workers.is_on, declared.event.Event.Event, declared.event.Event.TheVariants.Split}
 use Rattle.row_ledger.proofs.{Descent.live-made, Positions.before-older}
-use Rattle.shard_build.proofs.Lists.{zip-append}
+use Rattle.core_tree.specs.shard_build.proofs.Lists.{zip-append}
 use Rattle.shard_plan.specs.{Balancing.plan, declared.action.Action.Action, declared.action.Load.Load}
-use Rattle.volap_cell.specs.{Commands.after_action, Ghost.Ghost, Growing.IsUnder, Invariant.InvWith, Planning.{job_for, next_job}, Setting.{Setting, site_in}, Values.{JobValue, IsCalled}, View.view, Working.{IsAhead, IsBalancing, IsPlanned, IsReadLoad, action_of, begun_job, places_in}, World.World, declared.command.Balance.Balance}
-use Rattle.volap_cell.proofs.{OneEvent.Older.Any-weaker, OneEvent.Work.rows-may-grown}
+use Rattle.core_tree.specs.volap_cell.specs.{Commands.after_action, Ghost.Ghost, Growing.IsUnder, Invariant.InvWith, Planning.{job_for, next_job}, Setting.{Setting, site_in}, Values.{JobValue, IsCalled}, View.view, Working.{IsAhead, IsBalancing, IsPlanned, IsReadLoad, action_of, begun_job, places_in}, World.World, declared.command.Balance.Balance}
+use Rattle.core_tree.specs.volap_cell.proofs.{OneEvent.Older.Any-weaker, OneEvent.Work.rows-may-grown}
 use Rattle.core_image.proofs.{Commands.NextAction.{drop-at, inside, next-action, take-more}, Images.MadePaths.ids-before}
 use Rattle.core_admin.proofs.ShardLines.{KeepsLines}
 use Rattle.shard_plan.specs.declared.action.Action.TheVariants as action

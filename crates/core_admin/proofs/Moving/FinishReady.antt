@@ -4,8 +4,8 @@ use Rattle.cell_stock.specs.{Stock.{AreOut, StockValue}, declared.purse.Spare.Sp
 use Rattle.dim_hierarchy.specs.Dimension.{Dimension}
 use Rattle.row_ledger.specs.LedgerValue.{LedgerValue}
 use Rattle.server_image.specs.Registry.{RegistryValue}
-use Rattle.shard_store.specs.declared.gate.Gate.{Gate}
-use Rattle.volap_cell.specs.{Cells.{CellValue, GateCell, LedgerCell, RegistryCell, StockCell}, Steps.IsHere, Values.{ActorValue, JobValue}, View.view, World.{Change, held}}
+use Rattle.core_tree.specs.shard_store.specs.declared.gate.Gate.{Gate}
+use Rattle.core_tree.specs.volap_cell.specs.{Cells.{CellValue, GateCell, LedgerCell, RegistryCell, StockCell}, Steps.IsHere, Values.{ActorValue, JobValue}, View.view, World.{Change, held}}
 use Rattle.core_admin.specs.FinishDue.{IsMovedUp, MayFinish, MovesTo}
 use Rattle.core_admin.proofs.Building.BuiltUp.{enough-promised, is-drained, is-late, is-listed, job-same, may-close, purse-here, rest-out, stock-here}
 

@@ -3,25 +3,25 @@ use Rattle.std.proofs.{Common.{◌≡◌, ◌≢◌, ℕ, zero, suc, ◌+◌, �
 use Rattle.std.specs.{FinMap.FinMap, List.AllZip, Ordering.nat_cmp}
 use Rattle.cell_stock.specs.{Stock.{StockValue, cells_of}, declared.purse.Spare.Spare}
 use Rattle.dc_node.specs.declared.entry.Entry.{Entry}
-use Rattle.link_descent.specs.declared.entered.Fresh.{Fresh}
+use Rattle.core_tree.specs.link_descent.specs.declared.entered.Fresh.{Fresh}
 use Rattle.mapping_table.specs.declared.place.Where.{Where}
 use Rattle.row_ledger.specs.{Laws.AscendFrom, LedgerValue.LedgerValue, Listings.places_of, Past.{before, work}, Right.IsRightAction, Shards.is_live, Work.{Did, Settles, shard_of}, Workers.is_on, declared.event.Event.Event, declared.event.Event.TheVariants.Moved}
-use Rattle.tree_shape.specs.{Collecting.AfterCollecting, Forest.{filled_cells, AreInCells, AreRowsOf}, Laws.{CollectEndLaw, OtherLaw}, Shape.{Shape, nodes, numbers}, Trees.IsTree}
+use Rattle.core_tree.specs.tree_shape.specs.{Collecting.AfterCollecting, Forest.{filled_cells, AreInCells, AreRowsOf}, Laws.{CollectEndLaw, OtherLaw}, Shape.{Shape, nodes, numbers}, Trees.IsTree}
 use Rattle.list_words.proofs.{Each.{each-right, each-among, each-both, all-each, among-right, each-here}, Times.times-append, Truth.{on_bool, eqb-self}}
 use Rattle.list_words.specs.Counts.{Among, Each, same, times}
-use Rattle.volap_cell.proofs.{Cells.Blanks.{spare-owner, spent-owner}, Cells.Spares.{move-blank, among-cells}, Views.Admin.view-finish_move, Views.Frames.{actor-at, actor-off}, Views.Touches.IsBlank}
+use Rattle.core_tree.specs.volap_cell.proofs.{Cells.Blanks.{spare-owner, spent-owner}, Cells.Spares.{move-blank, among-cells}, Views.Admin.view-finish_move, Views.Frames.{actor-at, actor-off}, Views.Touches.IsBlank}
 use Rattle.dim_hierarchy.specs.{Rows.IsRowOf, declared.row.Row.Row}
 use Rattle.describing_set.specs.declared.listing.Spot.{Spot}
 use Rattle.row_ledger.proofs.{Ascent.frontier-ascends, Growth.KeepsRight-moved}
 use Rattle.server_image.specs.{Registry.RegistryValue, Spots.place_of}
 use Rattle.shard_plan.specs.declared.action.Action.{Action}
 use Rattle.shard_plan.specs.declared.action.Action.TheVariants as action
-use Rattle.shard_store.specs.{Gate.IsQueueOf, declared.gate.Gate.Gate, declared.gate.Phase.TheVariants.Frozen}
-use Rattle.volap_cell.specs.{AdminKinds.{DoesFinishMove, Finishes, spent_by, tree_of}, Cells.{CellValue, GateCell, LedgerCell, MapCell, RegistryCell, StockCell, active_in, block_in, gate_shard, gone_in, has_block, phase_of, pins_in, queue_in, way_in, way_to_tree}, Falls.left, Ghost.{AGate, Ghost, InJob, Owner, is_in_job, InPurse}, Growing.table_of, Invariant.InvWith, Setting.{Setting, site_in}, Steps.IsKept, Stocking.{cells_at, items_of_job, spent_of}, Values.{ActorValue, JobValue, IsCalled}, View.{View, view}, Working.{action_of, action_to, IsBuilding}, World.{Agrees, Change, World, after}}
-use Rattle.volap_cell.specs.declared.kind.Kind.TheVariants as kind
+use Rattle.core_tree.specs.shard_store.specs.{Gate.IsQueueOf, declared.gate.Gate.Gate, declared.gate.Phase.TheVariants.Frozen}
+use Rattle.core_tree.specs.volap_cell.specs.{AdminKinds.{DoesFinishMove, Finishes, spent_by, tree_of}, Cells.{CellValue, GateCell, LedgerCell, MapCell, RegistryCell, StockCell, active_in, block_in, gate_shard, gone_in, has_block, phase_of, pins_in, queue_in, way_in, way_to_tree}, Falls.left, Ghost.{AGate, Ghost, InJob, Owner, is_in_job, InPurse}, Growing.table_of, Invariant.InvWith, Setting.{Setting, site_in}, Steps.IsKept, Stocking.{cells_at, items_of_job, spent_of}, Values.{ActorValue, JobValue, IsCalled}, View.{View, view}, Working.{action_of, action_to, IsBuilding}, World.{Agrees, Change, World, after}}
+use Rattle.core_tree.specs.volap_cell.specs.declared.kind.Kind.TheVariants as kind
 use Rattle.core_image.proofs.Commands.Jobs.{items-new, spent-new}
 use Rattle.core_admin.proofs.{Building.BuildsBlock.among-spent, Building.NewTree.{fresh-at, cells-spent, contains-among, IsNewTree, leads-to, new-tree}, EndedCells.blank-counts, Endings.{Ending, IsFinished, closes, finished, job-asked, right-action}, Jobs.FinishedJob.{live as live-here, all-rows as job-rows, front as job-front, frozen, is-gate as job-gate, is-job-cell, late as job-late, late-is as job-late-is, late-named as job-late-named, once, phase-here as job-phase, read as job-read, rows as rows_built, rows-named, rows-valid, spent-is, was as job-was}, Moving.BalanceDone.IsDoneBy, Moving.MovedKnown.{IsSameBox, comes, moved-boxes, moved-lines}, Moving.MovedShards.{moved_place, rehosted}, Moving.MovesLineage.{Moving, live-same, moved-leads}, Moving.MovesShard.{gc-now, ledger-now, kept, moved-tables, registry-now, stock-now, x-now, at-x}, PlansAhead.moved-ahead, Postponing.Returned.{cells-append, one}, Retiring.Gates.{Retiring, given_to}, SharedRows.{SharesRows, shared_ghost}}
-use Rattle.shard_build.specs.{Building.spare_of, Built.IsBuilt, declared.builder.Built.Built}
+use Rattle.core_tree.specs.shard_build.specs.{Building.spare_of, Built.IsBuilt, declared.builder.Built.Built}
 
 -- the registry's boxes stay
 same-boxes : (to k : ℕ) (spots : List Spot) (spot : Spot) → slice_get spots k ≡ Some spot → AllZip IsSameBox spots (slice_set spots k (record spot { worker = to }))

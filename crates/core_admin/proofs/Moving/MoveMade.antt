@@ -8,11 +8,11 @@ use Rattle.mapping_table.specs.declared.place.Where.{Where}
 use Rattle.mapping_table.specs.declared.place.Where.TheVariants as where_is
 use Rattle.row_ledger.specs.{LedgerValue.LedgerValue, declared.event.Event.Event, declared.event.Event.TheVariants.Moved}
 use Rattle.server_image.specs.Registry.{RegistryValue}
-use Rattle.shard_store.specs.declared.gate.Gate.{Gate}
-use Rattle.tree_shape.specs.Laws.{CollectEndLaw, OtherLaw}
-use Rattle.volap_cell.specs.{AdminKinds.{DoesFinishMove, Finishes, MovesIn}, Cells.{CellValue, GateCell, LedgerCell, MapCell, MapOf, RegistryCell, StockCell, tag_of}, ImageKinds.doing, Steps.{IsHere, Keeps, Makes}, Values.{ActorValue, BuildingValue, Builds, JobValue}, Working.IsJobOf, World.{Agrees, Change, change, held}, declared.command.Command.Command, declared.command.Work.Work}
-use Rattle.volap_cell.specs.declared.command.Work.TheVariants as work_is
-use Rattle.volap_cell.specs.declared.kind.Kind.TheVariants as kind
+use Rattle.core_tree.specs.shard_store.specs.declared.gate.Gate.{Gate}
+use Rattle.core_tree.specs.tree_shape.specs.Laws.{CollectEndLaw, OtherLaw}
+use Rattle.core_tree.specs.volap_cell.specs.{AdminKinds.{DoesFinishMove, Finishes, MovesIn}, Cells.{CellValue, GateCell, LedgerCell, MapCell, MapOf, RegistryCell, StockCell, tag_of}, ImageKinds.doing, Steps.{IsHere, Keeps, Makes}, Values.{ActorValue, BuildingValue, Builds, JobValue}, Working.IsJobOf, World.{Agrees, Change, change, held}, declared.command.Command.Command, declared.command.Work.Work}
+use Rattle.core_tree.specs.volap_cell.specs.declared.command.Work.TheVariants as work_is
+use Rattle.core_tree.specs.volap_cell.specs.declared.kind.Kind.TheVariants as kind
 use Rattle.core_tree.proofs.Calls.Behind.{last-same}
 use Rattle.core_admin.specs.FinishDue.{CanFinishHere, CanFinishMove, ClosesDone, FinishesFor, IsMovedUp, IsNextGate, MakesWay, MakesWayHere, MayMakeWay, NotesDone, plans}
 use Rattle.core_admin.proofs.{Building.BuiltUp.{is-late, its-job, known}, Moving.FinishReady.moves-of, Moving.FinishesMove.{finish-move, one-table-kept, two-tables-kept}}

@@ -5,9 +5,9 @@ use Rattle.describing_set.specs.{DescSet.covers, declared.listing.Spot.Spot}
 use Rattle.row_ledger.specs.{Bounds.may, Listings.IsBox, Shards.{comes_from, frontier}, declared.event.Event.Event, declared.event.Event.TheVariants.Moved}
 use Rattle.row_ledger.proofs.{Changes.moved-changes, Descent.comes_from-self}
 use Rattle.server_image.specs.Registry.{RegistryValue}
-use Rattle.tree_shape.specs.Queries.{fits}
+use Rattle.core_tree.specs.tree_shape.specs.Queries.{fits}
 use Rattle.list_words.proofs.Truth.{on_bool}
-use Rattle.volap_cell.specs.{Ghost.Ghost, Growing.IsUnder, Imaging.Fits, Invariant.InvWith, Setting.Setting, View.{View, view}, World.World}
+use Rattle.core_tree.specs.volap_cell.specs.{Ghost.Ghost, Growing.IsUnder, Imaging.Fits, Invariant.InvWith, Setting.Setting, View.{View, view}, World.World}
 use Rattle.core_image.proofs.Images.Boxes.{All-zip, Any-zip}
 use Rattle.core_admin.proofs.{Moving.MovedShards.live-moved, ShardLines.{KeepsBoxes, KeepsLines}}
 

@@ -5,7 +5,7 @@ use Rattle.describing_set.specs.declared.listing.Spot.{Spot}
 use Rattle.row_ledger.specs.{Laws.AscendFrom, Listings.places_of, Shards.{Place, is_of, place}, Workers.left_at, declared.event.Event.Event}
 use Rattle.server_image.specs.Spots.{place_of}
 use Rattle.list_words.proofs.Truth.{on_bool}
-use Rattle.volap_cell.proofs.Histories.Departures.{MovesAt, left-moves}
+use Rattle.core_tree.specs.volap_cell.proofs.Histories.Departures.{MovesAt, left-moves}
 
 -- a place after the move
 abbrev pub moved_place : ℕ → ℕ → Place → Place

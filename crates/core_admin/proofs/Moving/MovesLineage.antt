@@ -4,10 +4,10 @@ use Rattle.std.specs.Prelude.{IsTrue}
 use Rattle.mapping_table.specs.declared.place.Where.TheVariants as where_is
 use Rattle.row_ledger.specs.{Listings.places_of, Right.{EachEvent, Stands}, Shards.{frontier, ids_made, is_child, is_live}, Workers.{is_on, left_at}, declared.event.Event.Event, declared.event.Event.TheVariants.Moved}
 use Rattle.row_ledger.proofs.{Ascent.frontier-ascends, Descent.live-last}
-use Rattle.shard_store.specs.declared.gate.Phase.TheVariants.{Frozen, Gone}
+use Rattle.core_tree.specs.shard_store.specs.declared.gate.Phase.TheVariants.{Frozen, Gone}
 use Rattle.list_words.proofs.Truth.{on_bool, eqb-self}
-use Rattle.volap_cell.specs.{Ghost.Ghost, Invariant.InvWith, Lineage.{was_on, went_to}, Setting.{Setting, site_in}, View.View}
-use Rattle.volap_cell.proofs.{Histories.Departures.older-made, Histories.Lines.child-comes}
+use Rattle.core_tree.specs.volap_cell.specs.{Ghost.Ghost, Invariant.InvWith, Lineage.{was_on, went_to}, Setting.{Setting, site_in}, View.View}
+use Rattle.core_tree.specs.volap_cell.proofs.{Histories.Departures.older-made, Histories.Lines.child-comes}
 use Rattle.core_admin.proofs.{Moving.MovedShards.{live-moved, moved_place, on-here, on-other, on-there, one-host}, Retiring.Gates.Retiring, SharedLineage.{IsNewEntry, LeadsOn}}
 
 -- The tables and the registry. The shard goes from one worker to another one, or to the same, to the gate y.

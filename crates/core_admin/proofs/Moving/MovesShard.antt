@@ -5,11 +5,11 @@ use Rattle.mapping_table.specs.declared.place.Where.{Where}
 use Rattle.cell_stock.specs.Stock.{StockValue}
 use Rattle.row_ledger.specs.{LedgerValue.LedgerValue, declared.event.Event.TheVariants.Moved}
 use Rattle.server_image.specs.Registry.{RegistryValue}
-use Rattle.shard_store.specs.declared.gate.Gate.{Gate}
+use Rattle.core_tree.specs.shard_store.specs.declared.gate.Gate.{Gate}
 use Rattle.list_words.specs.Counts.{Each}
 use Rattle.list_words.proofs.{Each.each-left, Truth.on_bool}
-use Rattle.volap_cell.specs.{AdminKinds.{DoesFinishMove, MovesIn}, Cells.{CellValue, GateCell, LedgerCell, MapCell, MapOf, RegistryCell, StockCell, ledger_in, tag_of}, Ghost.Ghost, Invariant.InvWith, Setting.{Setting, ledger_cell}, Values.{ActorValue, JobValue}, View.{View, view}, World.{Agrees, Change, World, after}}
-use Rattle.volap_cell.proofs.{Cells.Spares.move-blank, Views.Fields.IsNew, Views.Frames.{AreAt, AreApartCells}, Views.Touches.IsBlank}
+use Rattle.core_tree.specs.volap_cell.specs.{AdminKinds.{DoesFinishMove, MovesIn}, Cells.{CellValue, GateCell, LedgerCell, MapCell, MapOf, RegistryCell, StockCell, ledger_in, tag_of}, Ghost.Ghost, Invariant.InvWith, Setting.{Setting, ledger_cell}, Values.{ActorValue, JobValue}, View.{View, view}, World.{Agrees, Change, World, after}}
+use Rattle.core_tree.specs.volap_cell.proofs.{Cells.Spares.move-blank, Views.Fields.IsNew, Views.Frames.{AreAt, AreApartCells}, Views.Touches.IsBlank}
 use Rattle.std.specs.FinMap as map
 use Rattle.mapping_table.specs.declared.place.Where.TheVariants as where_is
 use Rattle.core_admin.proofs.EndedCells.{EndsCells, IsTable, at-x as at_x, get-other, get-same, kept as cells_kept, ledger-now as ledger_now, ledger-of, new-now, registry-now as registry_now, stock-now as stock_now, table-now, tables-off, x-now as x_now}

@@ -6,11 +6,11 @@ use Rattle.dim_hierarchy.specs.Dimension.{Dimension}
 use Rattle.row_ledger.specs.LedgerValue.{LedgerValue}
 use Rattle.list_words.specs.Counts.{times}
 use Rattle.list_words.proofs.Times.{times-append, all-times, distinct-times}
-use Rattle.volap_cell.specs.{AdminKinds.{DoesPostpone, GivesUp, HasFrozen, spent_in}, Cells.{CellValue, LedgerCell, StockCell}, Commands.owes, Ghost.{Ghost, NotOfStock, is_in_job, is_in_purse}, ImageKinds.doing, Invariant.InvWith, Setting.Setting, Steps.{IsHere, Makes}, Stocking.spent_of, Values.{ActorValue, JobValue, stage_of}, View.{View, view}, Working.{IsJobOf, begun_job}, World.{Change, change, held}, declared.command.Command.Command, declared.command.Work.Work, declared.job.Building.Building, declared.job.Stage.Stage}
-use Rattle.volap_cell.specs.declared.command.Work.TheVariants as work_is
-use Rattle.volap_cell.specs.declared.job.Stage.TheVariants as stage_is
-use Rattle.volap_cell.specs.declared.kind.Kind.TheVariants as kind
-use Rattle.volap_cell.proofs.Views.Shown.{held-stock}
+use Rattle.core_tree.specs.volap_cell.specs.{AdminKinds.{DoesPostpone, GivesUp, HasFrozen, spent_in}, Cells.{CellValue, LedgerCell, StockCell}, Commands.owes, Ghost.{Ghost, NotOfStock, is_in_job, is_in_purse}, ImageKinds.doing, Invariant.InvWith, Setting.Setting, Steps.{IsHere, Makes}, Stocking.spent_of, Values.{ActorValue, JobValue, stage_of}, View.{View, view}, Working.{IsJobOf, begun_job}, World.{Change, change, held}, declared.command.Command.Command, declared.command.Work.Work, declared.job.Building.Building, declared.job.Stage.Stage}
+use Rattle.core_tree.specs.volap_cell.specs.declared.command.Work.TheVariants as work_is
+use Rattle.core_tree.specs.volap_cell.specs.declared.job.Stage.TheVariants as stage_is
+use Rattle.core_tree.specs.volap_cell.specs.declared.kind.Kind.TheVariants as kind
+use Rattle.core_tree.specs.volap_cell.proofs.Views.Shown.{held-stock}
 use Rattle.core_image.proofs.{Commands.Backed.all-promised, Commands.NextAction.{inside, next-action}}
 use Rattle.core_tree.proofs.Stocks.Exchanges.{are-out}
 use Rattle.core_admin.specs.FinishDue.{CanPostpone, Closes, GivesAll, GivesSpent, MayClose, MayGiveAll, NotesGivenUp, gone_by, plans}

@@ -8,10 +8,10 @@ use Rattle.row_ledger.specs.declared.class.Class.TheVariants as class_is
 use Rattle.row_ledger.specs.declared.settings.How.TheVariants as how_is
 use Rattle.row_ledger.proofs.{Changes.quiet, Growth.{KeepsRight-ended, KeepsRight-left}}
 use Rattle.shard_plan.specs.declared.action.Action.{Action}
-use Rattle.volap_cell.specs.{AdminKinds.{DoesPostpone, GivesUp, HasFrozen}, Cells.{TheLedger, TheStock, tag_of}, Commands.{after_action, owes}, Errands.{RowWay, Taken, taken_by, taken_of, way_of}, Falls.{control_of, job_left, left, of_work, stage_left}, Ghost.Ghost, ImageKinds.{Pushes, doing}, Invariant.InvWith, Lineage.Lineage, Owing.{Owing, owed_by}, Planning.next_job, Setting.{Setting, actor_count, site_in}, Steps.{IsKept, Keeps}, Stocking.{items_of_job, spent_of}, Telling.{IsCalledAs, IsProgress, Telling}, Turning.Turning, Values.{ActorValue, ErrandValue, JobValue, StageValue, IsCalled, IsDeclined, IsFrozen, Collects, Builds}, View.{View, view, row_at}, Working.{Balancing, IsBalancing, IsDeclinedFor, IsJobOf, begun_job}, World.{World, Change, Agrees, after}, declared.command.Balance.Balance, declared.command.Command.Command, declared.command.Work.Work, declared.role.Role.TheVariants.Admin}
-use Rattle.volap_cell.specs.declared.command.Work.TheVariants as work_is
-use Rattle.volap_cell.specs.declared.kind.Kind.TheVariants as kind
-use Rattle.volap_cell.proofs.{Cells.Past.{ledger-past, stock-past}, OneEvent.Known.{AreOlder, older-rows}, OneEvent.Noted.{IsNotedBy, telling-ends, telling-goes-on}, OneEvent.Older.on-stays, OneEvent.Quiet.{balancing-quiet, covering-quiet, desking-quiet, desks-older, imaging-quiet, inserting-quiet, lineage-quiet, placing-quiet, querying-quiet, readers-older, resting-quiet}, OneEvent.Reads.{ReadersTake, pinned-whole, readers-take, reading-rows-older}, OneEvent.Told.{called-kept, commands-older, no-work}, OneEvent.Trees.{growing-grown, past-there, queueing-grown}, OneEvent.Work.one-balance-grown, Persons.has-command, Views.Admin.{by_postpone, view-postpone}, Views.Fields.{IsNew, IsNewAt, IsPushed, pushed-new}, Views.Frames.{actor-at, actor-off}, Views.Seen.renewed}
+use Rattle.core_tree.specs.volap_cell.specs.{AdminKinds.{DoesPostpone, GivesUp, HasFrozen}, Cells.{TheLedger, TheStock, tag_of}, Commands.{after_action, owes}, Errands.{RowWay, Taken, taken_by, taken_of, way_of}, Falls.{control_of, job_left, left, of_work, stage_left}, Ghost.Ghost, ImageKinds.{Pushes, doing}, Invariant.InvWith, Lineage.Lineage, Owing.{Owing, owed_by}, Planning.next_job, Setting.{Setting, actor_count, site_in}, Steps.{IsKept, Keeps}, Stocking.{items_of_job, spent_of}, Telling.{IsCalledAs, IsProgress, Telling}, Turning.Turning, Values.{ActorValue, ErrandValue, JobValue, StageValue, IsCalled, IsDeclined, IsFrozen, Collects, Builds}, View.{View, view, row_at}, Working.{Balancing, IsBalancing, IsDeclinedFor, IsJobOf, begun_job}, World.{World, Change, Agrees, after}, declared.command.Balance.Balance, declared.command.Command.Command, declared.command.Work.Work, declared.role.Role.TheVariants.Admin}
+use Rattle.core_tree.specs.volap_cell.specs.declared.command.Work.TheVariants as work_is
+use Rattle.core_tree.specs.volap_cell.specs.declared.kind.Kind.TheVariants as kind
+use Rattle.core_tree.specs.volap_cell.proofs.{Cells.Past.{ledger-past, stock-past}, OneEvent.Known.{AreOlder, older-rows}, OneEvent.Noted.{IsNotedBy, telling-ends, telling-goes-on}, OneEvent.Older.on-stays, OneEvent.Quiet.{balancing-quiet, covering-quiet, desking-quiet, desks-older, imaging-quiet, inserting-quiet, lineage-quiet, placing-quiet, querying-quiet, readers-older, resting-quiet}, OneEvent.Reads.{ReadersTake, pinned-whole, readers-take, reading-rows-older}, OneEvent.Told.{called-kept, commands-older, no-work}, OneEvent.Trees.{growing-grown, past-there, queueing-grown}, OneEvent.Work.one-balance-grown, Persons.has-command, Views.Admin.{by_postpone, view-postpone}, Views.Fields.{IsNew, IsNewAt, IsPushed, pushed-new}, Views.Frames.{actor-at, actor-off}, Views.Seen.renewed}
 use Rattle.core_image.proofs.{Commands.Endings.{right-end, unasked}, Commands.Ends.only-its, Commands.Jobs.{items-new, spent-new}, Commands.JobsEnd.jobless-balancing, Commands.NextAction.{balancing-next, next-is, within}, Commands.Owed.{owed-others, promises-now}, Lessens.Remains.{control_at, control-changed}, Pages.Pageless.asks_page}
 use Rattle.core_admin.proofs.{Jobs.NextJobs.{IsNextOf, none-insert, numbering-next, off-desk, working-next, balancing-one, control-next}, Jobs.TurnedCommands.{IsOffDesk, turned-desking, turned-inserting, turned-placing}, Postponing.Returned.{Returns, gives-returns, returned, returned-stamping, returned-stocking}}
 

@@ -4,8 +4,8 @@ use Rattle.cell_stock.specs.{Stock.{IsStock, PurseValue, StockValue, Gives, cell
 use Rattle.dc_node.specs.declared.todo.Item.{Item}
 use Rattle.list_words.specs.Counts.{Each, times}
 use Rattle.list_words.proofs.{Each.{each-map, each-left}, Times.{times-append, all-times, distinct-times}, Truth.on_bool}
-use Rattle.tree_shape.specs.{Queries.NoneWaits, Shape.nodes, Steps.{AreApart, AreSpares}}
-use Rattle.volap_cell.specs.{Ghost.{AGate, Ghost, InJob, InPurse, InTree, NotOfStock, Owner, Unused, is_in_job, is_in_purse, is_in_tree, is_unused}, Invariant.InvWith, Setting.Setting, Stocking.{LeavesStamp, Stamping, Stocking, all_items, all_spares, cells_at, items_of_job, items_of_read, spent_of}, Values.JobValue, View.View}
+use Rattle.core_tree.specs.tree_shape.specs.{Queries.NoneWaits, Shape.nodes, Steps.{AreApart, AreSpares}}
+use Rattle.core_tree.specs.volap_cell.specs.{Ghost.{AGate, Ghost, InJob, InPurse, InTree, NotOfStock, Owner, Unused, is_in_job, is_in_purse, is_in_tree, is_unused}, Invariant.InvWith, Setting.Setting, Stocking.{LeavesStamp, Stamping, Stocking, all_items, all_spares, cells_at, items_of_job, items_of_read, spent_of}, Values.JobValue, View.View}
 use Rattle.core_tree.proofs.Stocks.Spares.{other-purse}
 
 -- the cells of these spares are free again

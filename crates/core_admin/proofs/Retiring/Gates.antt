@@ -2,11 +2,11 @@
 -- What becomes of cells: their uses, the trees, the queues, and the inserts that are in trees.
 use Rattle.std.proofs.{Common.{◌≡◌, ◌≢◌, ℕ, ◌+◌, ◌^◌, ◌<◌, ◌≤◌, Bool, true, false, cond, eqb, [], Some, IsSome, refl, sym, ap, ◌∙◌, subst, ◌⊎◌, inl, inr, arith}, lemmas.Bool.{false≢true, eqb-true, eqb-false, ne_eqb}}
 use Rattle.cell_stock.specs.{Stock.{IsStock, cells_of}, declared.purse.Spare.Spare}
-use Rattle.shard_store.specs.{Gate.IsQueueOf, declared.gate.Phase.TheVariants.{Frozen, Gone, Open}}
+use Rattle.core_tree.specs.shard_store.specs.{Gate.IsQueueOf, declared.gate.Phase.TheVariants.{Frozen, Gone, Open}}
 use Rattle.list_words.specs.Counts.{Among, Each, times}
 use Rattle.list_words.proofs.{Times.{all-times, distinct-times}, Truth.{on_bool, eqb-self}}
-use Rattle.tree_shape.specs.{Shape.{Shape, nodes}, Trees.IsTree}
-use Rattle.volap_cell.specs.{Ghost.{AGate, Ghost, InJob, InPurse, InTree, NotOfStock, Owner, Unused, is_in_job, is_in_purse, is_in_tree, is_unused}, Growing.table_of, Invariant.InvWith, Setting.Setting, Stocking.{IsWhole, Stocking, cells_at, items_of_job, spent_of}, View.View}
+use Rattle.core_tree.specs.tree_shape.specs.{Shape.{Shape, nodes}, Trees.IsTree}
+use Rattle.core_tree.specs.volap_cell.specs.{Ghost.{AGate, Ghost, InJob, InPurse, InTree, NotOfStock, Owner, Unused, is_in_job, is_in_purse, is_in_tree, is_unused}, Growing.table_of, Invariant.InvWith, Setting.Setting, Stocking.{IsWhole, Stocking, cells_at, items_of_job, spent_of}, View.View}
 use Rattle.core_tree.proofs.Stocks.Spares.{in-own, other-purse}
 use Rattle.core_admin.proofs.Postponing.Returned.{one}
 

@@ -1,10 +1,10 @@
 -- What is left of control where a gate is retired: its cells are to be given back, which is less than was left of its job.
 use Rattle.std.proofs.{Common.{◌≡◌, ◌≢◌, ℕ, ◌+◌, ◌*◌, ◌<◌, ◌≤◌, Bool, true, false, cond, eqb, [], length, Option, Some, None, refl, sym, ap, ◌∙◌, inl, inr, arith}, lemmas.Bool.{cases_lt, eqb-true, eqb-false, ne_eqb}}
-use Rattle.shard_store.specs.declared.gate.Phase.{Phase}
+use Rattle.core_tree.specs.shard_store.specs.declared.gate.Phase.{Phase}
 use Rattle.list_words.specs.Counts.{times}
 use Rattle.list_words.proofs.Truth.{on_bool, eqb-self}
-use Rattle.volap_cell.specs.{Falls.{control_of, gone_left, job_left, left, of_work, plenty, stage_left}, Ghost.{AGate, Ghost, InTree, NotOfStock}, Invariant.InvWith, Setting.{Setting, actor_count, cell_count}, Sums.sum_below, Values.{ActorValue, BuildingValue, Builds, JobValue, StageValue}, View.{View, view}, World.World, declared.command.Command.Command}
-use Rattle.volap_cell.proofs.{Counting.length-few, Persons.has-job, Sums.{sum-beyond, sum-changed, sum-no-more}}
+use Rattle.core_tree.specs.volap_cell.specs.{Falls.{control_of, gone_left, job_left, left, of_work, plenty, stage_left}, Ghost.{AGate, Ghost, InTree, NotOfStock}, Invariant.InvWith, Setting.{Setting, actor_count, cell_count}, Sums.sum_below, Values.{ActorValue, BuildingValue, Builds, JobValue, StageValue}, View.{View, view}, World.World, declared.command.Command.Command}
+use Rattle.core_tree.specs.volap_cell.proofs.{Counting.length-few, Persons.has-job, Sums.{sum-beyond, sum-changed, sum-no-more}}
 use Rattle.core_admin.proofs.{Jobs.JobsGoOn.only-one, Retiring.Gates.{Retiring, old-whole}}
 
 -- one summand is more by so much at most, and the others are no more

@@ -4,12 +4,12 @@ use Rattle.cell_stock.specs.declared.purse.Spare.{Spare}
 use Rattle.dim_hierarchy.specs.declared.row.Row.{Row}
 use Rattle.dc_node.specs.{declared.block.Block.Block, declared.entry.Entry.Entry, declared.todo.Item.Item}
 use Rattle.row_ledger.specs.declared.event.Event.{Event}
-use Rattle.shard_store.specs.{Gate.IsQueueOf, declared.gate.Phase.TheVariants.{Frozen, Gone, Open}, declared.queue.Queue.Queue}
+use Rattle.core_tree.specs.shard_store.specs.{Gate.IsQueueOf, declared.gate.Phase.TheVariants.{Frozen, Gone, Open}, declared.queue.Queue.Queue}
 use Rattle.list_words.specs.Counts.{Among, Each}
 use Rattle.list_words.proofs.{Each.{each-both, each-map, each-append, each-here, each-left, each-right, each-among}, Truth.{on_bool, eqb-self}}
-use Rattle.tree_shape.specs.{Laws.OtherLaw, Queries.NoneWaits, Shape.{Shape, nodes}, Steps.{AreApart, AreSpares, IsSpare}, Trees.IsTree}
-use Rattle.volap_cell.specs.{Errands.{AtBlock, InLeaf, RowWay, Taken, has_passed, taken_by, taken_of, way_of}, Ghost.{Ghost, InJob, InPurse, InTree, Owner}, Growing.{Growing, IsUnder, Queueing, Resting, table_of}, Invariant.InvWith, Querying.Pinning, Setting.{Setting, actor_count}, Stocking.{IsWhole, LeavesStamp, NoneExpects, Stamping, all_items, all_spares, cells_at, items_of_job, items_of_read, spent_of}, Turning.{IsIn, Turning, inside_of, is_inside}, Values.{ErrandValue, JobValue}, View.{View, view}, World.World, declared.role.Role.TheVariants.Admin}
-use Rattle.volap_cell.proofs.{Cells.Blanks.spent-owner, Cells.Spares.among-cells, Persons.has-taken, Sums.sum-some}
+use Rattle.core_tree.specs.tree_shape.specs.{Laws.OtherLaw, Queries.NoneWaits, Shape.{Shape, nodes}, Steps.{AreApart, AreSpares, IsSpare}, Trees.IsTree}
+use Rattle.core_tree.specs.volap_cell.specs.{Errands.{AtBlock, InLeaf, RowWay, Taken, has_passed, taken_by, taken_of, way_of}, Ghost.{Ghost, InJob, InPurse, InTree, Owner}, Growing.{Growing, IsUnder, Queueing, Resting, table_of}, Invariant.InvWith, Querying.Pinning, Setting.{Setting, actor_count}, Stocking.{IsWhole, LeavesStamp, NoneExpects, Stamping, all_items, all_spares, cells_at, items_of_job, items_of_read, spent_of}, Turning.{IsIn, Turning, inside_of, is_inside}, Values.{ErrandValue, JobValue}, View.{View, view}, World.World, declared.role.Role.TheVariants.Admin}
+use Rattle.core_tree.specs.volap_cell.proofs.{Cells.Blanks.spent-owner, Cells.Spares.among-cells, Persons.has-taken, Sums.sum-some}
 use Rattle.core_tree.proofs.{Rows.Carriers.purse-owned, Stocks.Spares.{spares-distinct, spares-from}}
 use Rattle.core_admin.proofs.{Retiring.Gates.{Retiring, gate-old, not-new, old-whole, whole-back}, Untouched.{expects-off, apart as apart-off, spares-off}}
 

@@ -4,12 +4,12 @@ use Rattle.std.proofs.{Common.{◌≡◌, ◌≢◌, ℕ, ◌+◌, ◌^◌, ◌<
 use Rattle.cell_stock.specs.{Stock.{IsStock, cells_of}, declared.purse.Spare.Spare}
 use Rattle.dim_hierarchy.specs.declared.row.Row.{Row}
 use Rattle.dc_node.specs.declared.block.Block.{Block}
-use Rattle.shard_store.specs.{Gate.IsQueueOf, declared.gate.Phase.TheVariants.{Frozen, Gone}, declared.queue.Queue.Queue}
+use Rattle.core_tree.specs.shard_store.specs.{Gate.IsQueueOf, declared.gate.Phase.TheVariants.{Frozen, Gone}, declared.queue.Queue.Queue}
 use Rattle.list_words.specs.Counts.{Each, same, times}
 use Rattle.list_words.proofs.{Times.{all-times, distinct-times}, Truth.{on_bool, eqb-self}}
-use Rattle.tree_shape.specs.{Laws.OtherLaw, Shape.numbers}
-use Rattle.volap_cell.specs.{Errands.{ReadPart, RowWay}, Ghost.{AGate, Ghost, InTree, NotOfStock, Owner, Unused, is_in_job, is_in_purse, is_in_tree, is_unused}, Growing.{Growing, Queueing, Resting}, Invariant.InvWith, Lineage.Lineage, Placing.Placing, Querying.{Pinning, Querying}, Reusing.Reusing, Setting.Setting, Stocking.{IsWhole, LeavesStamp, Stamping, Stocking, all_spares, spent_of}, Turning.{IsIn, Turning}, Values.JobValue, View.View, Working.Working}
-use Rattle.volap_cell.proofs.{Histories.Standings.live-on, Views.Admin.by_reuse, Views.Seen.renewed}
+use Rattle.core_tree.specs.tree_shape.specs.{Laws.OtherLaw, Shape.numbers}
+use Rattle.core_tree.specs.volap_cell.specs.{Errands.{ReadPart, RowWay}, Ghost.{AGate, Ghost, InTree, NotOfStock, Owner, Unused, is_in_job, is_in_purse, is_in_tree, is_unused}, Growing.{Growing, Queueing, Resting}, Invariant.InvWith, Lineage.Lineage, Placing.Placing, Querying.{Pinning, Querying}, Reusing.Reusing, Setting.Setting, Stocking.{IsWhole, LeavesStamp, Stamping, Stocking, all_spares, spent_of}, Turning.{IsIn, Turning}, Values.JobValue, View.View, Working.Working}
+use Rattle.core_tree.specs.volap_cell.proofs.{Histories.Standings.live-on, Views.Admin.by_reuse, Views.Seen.renewed}
 use Rattle.core_admin.proofs.{Postponing.Returned.one, Untouched.{apart as apart-off, expects-off, querying-off, spares-off}}
 
 -- The step as it is seen: the gate x is gone, nobody is pinned there, and the cell y is free now. It was a block's of the gate's tree

@@ -2,14 +2,14 @@
 use Rattle.std.proofs.{Common.{◌≡◌, ◌≢◌, ℕ, ◌+◌, ◌<◌, true, false, cond, eqb, List, [], ◌∷◌, ◌++◌, length, Option, Some, None, IsSome, refl, sym, ap, ◌∙◌, subst, inl, inr, arith}, lemmas.Bool.{eqb-true, eqb-false}, lemmas.List.length-append}
 use Rattle.cell_stock.specs.Stock.{StockValue}
 use Rattle.dim_hierarchy.specs.Dimension.{Dimension}
-use Rattle.shard_store.specs.{declared.gate.Gate.Gate, declared.gate.Phase.Phase, declared.gate.Phase.TheVariants.Gone}
+use Rattle.core_tree.specs.shard_store.specs.{declared.gate.Gate.Gate, declared.gate.Phase.Phase, declared.gate.Phase.TheVariants.Gone}
 use Rattle.list_words.specs.Counts.{times}
 use Rattle.list_words.proofs.{Times.{times-append, same_is}, Truth.on_bool}
-use Rattle.tree_shape.specs.Laws.{OtherLaw}
-use Rattle.volap_cell.specs.{AdminKinds.ReusesBlock, Cells.{CellValue, FreeCell, GateCell, StockCell, OfStock, TheStock, active_in, block_in, gate_shard, gone_in, has_block, phase_of, pins_in, queue_in, tag_of, way_in}, Errands.ReadPart, Falls.gone_left, Ghost.{AGate, Ghost, InTree, NotOfStock}, Invariant.InvWith, Reusing.is_gone, Setting.Setting, Steps.{IsKept, Keeps}, Stocking.IsWhole, Values.{ActorValue, JobValue}, View.{View, view}, World.{Agrees, Change, World, after, put}}
-use Rattle.volap_cell.proofs.{Cells.Blanks.owned-blank, Cells.Past.stock-past, OneEvent.Reads.{pinned-whole, readers-take}, Views.Admin.{by_reuse, view-reuse_block}, Views.Fields.IsNew, Views.Frames.{first, kept-but, second, unmoved-one}, Views.Seen.renewed, Views.Touches.{IsBlank, turned}}
+use Rattle.core_tree.specs.tree_shape.specs.Laws.{OtherLaw}
+use Rattle.core_tree.specs.volap_cell.specs.{AdminKinds.ReusesBlock, Cells.{CellValue, FreeCell, GateCell, StockCell, OfStock, TheStock, active_in, block_in, gate_shard, gone_in, has_block, phase_of, pins_in, queue_in, tag_of, way_in}, Errands.ReadPart, Falls.gone_left, Ghost.{AGate, Ghost, InTree, NotOfStock}, Invariant.InvWith, Reusing.is_gone, Setting.Setting, Steps.{IsKept, Keeps}, Stocking.IsWhole, Values.{ActorValue, JobValue}, View.{View, view}, World.{Agrees, Change, World, after, put}}
+use Rattle.core_tree.specs.volap_cell.proofs.{Cells.Blanks.owned-blank, Cells.Past.stock-past, OneEvent.Reads.{pinned-whole, readers-take}, Views.Admin.{by_reuse, view-reuse_block}, Views.Fields.IsNew, Views.Frames.{first, kept-but, second, unmoved-one}, Views.Seen.renewed, Views.Touches.{IsBlank, turned}}
 use Rattle.core_admin.proofs.{Postponing.Returned.one, Reusing.Freeing.{Freeing, freed, freed-holds}, Reusing.FreesCells.{in-tree, no-jobs, control-less}}
-use Rattle.volap_cell.specs.declared.kind.Kind.TheVariants as kind
+use Rattle.core_tree.specs.volap_cell.specs.declared.kind.Kind.TheVariants as kind
 
 module _ (x y c : Change) (b : ActorValue) (s : Setting) (w : World) (n : ℕ) (g : Ghost) (other : OtherLaw) (i : InvWith s (view s w) g) (ag : Agrees w (x ∷ y ∷ c ∷ []) n (w.actors n)) (d : ReusesBlock x y c (w.actors n) b) where
   abbrev v : View

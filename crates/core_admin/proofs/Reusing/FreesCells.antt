@@ -1,9 +1,9 @@
 -- A cell of a gate that is gone is used again: the invariant holds still, and one cell less is to be given back.
 use Rattle.std.proofs.{Common.{◌≡◌, ℕ, ◌+◌, ◌<◌, ◌≤◌, eqb, List, Option, Some, None, refl, sym, ap, ◌∙◌, arith}, lemmas.Bool.{eqb-true, eqb-false}}
-use Rattle.shard_store.specs.{declared.gate.Phase.Phase, declared.gate.Phase.TheVariants.Gone}
+use Rattle.core_tree.specs.shard_store.specs.{declared.gate.Phase.Phase, declared.gate.Phase.TheVariants.Gone}
 use Rattle.list_words.proofs.Truth.{on_bool}
-use Rattle.volap_cell.specs.{Errands.{AtBlock, AtRest, InLeaf, Outside, RowPlace, RowWay}, Falls.{control_of, gone_left, job_left, left, of_work}, Ghost.{AGate, Ghost, InTree, NotOfStock, Owner, is_in_tree}, Invariant.InvWith, Setting.{Setting, actor_count, cell_count}, Sums.sum_below, Turning.{inside_of, is_inside}, Values.{ActorValue, JobValue}, View.{View, view}, World.{Change, World, after}, declared.command.Command.Command, declared.role.Role.TheVariants.Admin}
-use Rattle.volap_cell.proofs.{Persons.only-admin, Sums.{sum-less, sum-same, sum-zero}, Views.Admin.by_reuse, Views.Frames.unmoved-one, Views.Seen.renewed}
+use Rattle.core_tree.specs.volap_cell.specs.{Errands.{AtBlock, AtRest, InLeaf, Outside, RowPlace, RowWay}, Falls.{control_of, gone_left, job_left, left, of_work}, Ghost.{AGate, Ghost, InTree, NotOfStock, Owner, is_in_tree}, Invariant.InvWith, Setting.{Setting, actor_count, cell_count}, Sums.sum_below, Turning.{inside_of, is_inside}, Values.{ActorValue, JobValue}, View.{View, view}, World.{Change, World, after}, declared.command.Command.Command, declared.role.Role.TheVariants.Admin}
+use Rattle.core_tree.specs.volap_cell.proofs.{Persons.only-admin, Sums.{sum-less, sum-same, sum-zero}, Views.Admin.by_reuse, Views.Frames.unmoved-one, Views.Seen.renewed}
 use Rattle.core_admin.proofs.{Postponing.Returned.one, Reusing.Freeing.Freeing}
 
 pub in-tree : (c : ℕ) (o : Owner) → 1 ≤ one (is_in_tree c o) → o ≡ InTree c

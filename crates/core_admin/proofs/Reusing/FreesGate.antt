@@ -2,14 +2,14 @@
 use Rattle.std.proofs.{Common.{◌≡◌, ◌≢◌, ℕ, ◌+◌, ◌<◌, false, cond, eqb, List, [], ◌∷◌, ◌++◌, length, Option, Some, IsSome, refl, sym, ap, ◌∙◌, subst, inl, inr, arith}, lemmas.Bool.{eqb-true, eqb-false}}
 use Rattle.cell_stock.specs.Stock.{StockValue}
 use Rattle.dim_hierarchy.specs.Dimension.{Dimension}
-use Rattle.shard_store.specs.{declared.gate.Phase.Phase, declared.gate.Phase.TheVariants.Gone}
+use Rattle.core_tree.specs.shard_store.specs.{declared.gate.Phase.Phase, declared.gate.Phase.TheVariants.Gone}
 use Rattle.list_words.specs.Counts.{times}
 use Rattle.list_words.proofs.{Times.{times-append, same_is}, Truth.on_bool}
-use Rattle.tree_shape.specs.Laws.{OtherLaw}
-use Rattle.volap_cell.specs.{AdminKinds.ReusesGate, Cells.{CellValue, FreeCell, GateCell, StockCell, OfStock, TheStock, active_in, block_in, gate_shard, gone_in, has_block, phase_of, pins_in, queue_in, tag_of, way_in}, Errands.ReadPart, Falls.gone_left, Ghost.Ghost, Invariant.InvWith, Reusing.{is_gone, without_gate}, Setting.Setting, Steps.{IsKept, Keeps}, Stocking.IsWhole, Values.{ActorValue, JobValue}, View.{View, view}, World.{Agrees, Change, World, after, put}}
-use Rattle.volap_cell.proofs.{Cells.Past.stock-past, OneEvent.Reads.{pinned-whole, readers-take}, Persons.only-admin, Reusing.{less-off, less-there, reusing-turned}, Views.Admin.{by_reuse, view-reuse_gate}, Views.Fields.IsNew, Views.Frames.{actor-at, first, kept-but}, Views.Seen.renewed, Views.Touches.turned}
+use Rattle.core_tree.specs.tree_shape.specs.Laws.{OtherLaw}
+use Rattle.core_tree.specs.volap_cell.specs.{AdminKinds.ReusesGate, Cells.{CellValue, FreeCell, GateCell, StockCell, OfStock, TheStock, active_in, block_in, gate_shard, gone_in, has_block, phase_of, pins_in, queue_in, tag_of, way_in}, Errands.ReadPart, Falls.gone_left, Ghost.Ghost, Invariant.InvWith, Reusing.{is_gone, without_gate}, Setting.Setting, Steps.{IsKept, Keeps}, Stocking.IsWhole, Values.{ActorValue, JobValue}, View.{View, view}, World.{Agrees, Change, World, after, put}}
+use Rattle.core_tree.specs.volap_cell.proofs.{Cells.Past.stock-past, OneEvent.Reads.{pinned-whole, readers-take}, Persons.only-admin, Reusing.{less-off, less-there, reusing-turned}, Views.Admin.{by_reuse, view-reuse_gate}, Views.Fields.IsNew, Views.Frames.{actor-at, first, kept-but}, Views.Seen.renewed, Views.Touches.turned}
 use Rattle.core_admin.proofs.{Postponing.Returned.one, Reusing.Freeing.{Freeing, freed, freed-holds}, Reusing.FreesCells.{no-jobs, idle, control-less}}
-use Rattle.volap_cell.specs.declared.kind.Kind.TheVariants as kind
+use Rattle.core_tree.specs.volap_cell.specs.declared.kind.Kind.TheVariants as kind
 
 module _ (x c : Change) (b : ActorValue) (s : Setting) (w : World) (n : ℕ) (g : Ghost) (other : OtherLaw) (i : InvWith s (view s w) g) (ag : Agrees w (x ∷ c ∷ []) n (w.actors n)) (d : ReusesGate x c (w.actors n) b) where
   abbrev v : View

@@ -2,12 +2,12 @@
 use Rattle.std.proofs.Common.{◌≡◌, ℕ, ◌+◌, List, [], ◌∷◌, ◌++◌, Option, Some, IsSome, refl, sym, ap, ◌∙◌, subst}
 use Rattle.cell_stock.specs.Stock.{IsOut, StockValue}
 use Rattle.dim_hierarchy.specs.Dimension.{Dimension}
-use Rattle.shard_store.specs.{declared.gate.Gate.Gate, declared.gate.Phase.Phase, declared.gate.Phase.TheVariants.Gone}
-use Rattle.tree_shape.specs.Laws.{OtherLaw}
-use Rattle.volap_cell.specs.{AdminKinds.ReusesGate, Cells.{CellValue, FreeCell, GateCell, StockCell, gate_shard, gone_in, phase_of, pins_in}, Ghost.{AGate, Ghost, NotOfStock, is_unused}, Reusing.without_gate, Setting.Setting, Steps.{IsHere, Makes}, Values.ActorValue, World.{World, change, held}}
+use Rattle.core_tree.specs.shard_store.specs.{declared.gate.Gate.Gate, declared.gate.Phase.Phase, declared.gate.Phase.TheVariants.Gone}
+use Rattle.core_tree.specs.tree_shape.specs.Laws.{OtherLaw}
+use Rattle.core_tree.specs.volap_cell.specs.{AdminKinds.ReusesGate, Cells.{CellValue, FreeCell, GateCell, StockCell, gate_shard, gone_in, phase_of, pins_in}, Ghost.{AGate, Ghost, NotOfStock, is_unused}, Reusing.without_gate, Setting.Setting, Steps.{IsHere, Makes}, Values.ActorValue, World.{World, change, held}}
 use Rattle.core_admin.specs.ReuseDue.{CanReuseGate}
 use Rattle.core_admin.proofs.{Reusing.FreesGate.reuse-gate-keeps, Reusing.ReusesHere.{gate-in, is-out}}
-use Rattle.volap_cell.specs.declared.kind.Kind.TheVariants as kind
+use Rattle.core_tree.specs.volap_cell.specs.declared.kind.Kind.TheVariants as kind
 
 module _ (other : OtherLaw) (h : List Dimension) (gate_at stock_at : ℕ) (gate stock : CellValue) (a : ActorValue) (here : IsHere h (held gate_at gate ∷ held stock_at stock ∷ []) a) (due : CanReuseGate gate stock a) where
   abbrev s : Setting

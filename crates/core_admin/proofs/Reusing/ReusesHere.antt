@@ -2,15 +2,15 @@
 use Rattle.std.proofs.{Common.{◌≡◌, ◌≢◌, ℕ, ◌+◌, false, eqb, List, [], ◌∷◌, ◌++◌, length, Option, Some, refl, sym, ap, ◌∙◌, subst, arith}, lemmas.Bool.eqb-true, lemmas.List.length-append}
 use Rattle.cell_stock.specs.Stock.{IsOut, StockValue}
 use Rattle.dim_hierarchy.specs.Dimension.{Dimension}
-use Rattle.shard_store.specs.{declared.gate.Gate.Gate, declared.gate.Phase.Phase, declared.gate.Phase.TheVariants.Gone}
+use Rattle.core_tree.specs.shard_store.specs.{declared.gate.Gate.Gate, declared.gate.Phase.Phase, declared.gate.Phase.TheVariants.Gone}
 use Rattle.list_words.specs.Counts.{times}
 use Rattle.list_words.proofs.{Times.{times-append, same_is, distinct-times, times-distinct}, Truth.on_bool}
-use Rattle.tree_shape.specs.Laws.{OtherLaw}
-use Rattle.volap_cell.specs.{AdminKinds.ReusesBlock, Cells.{CellValue, FreeCell, GateCell, StockCell, gone_in, phase_of, pins_in, stock_in}, Ghost.{Ghost, InTree, NotOfStock, is_unused}, Invariant.InvWith, Setting.Setting, Steps.{IsHere, Makes}, Values.ActorValue, View.view, World.{World, change, held}}
-use Rattle.volap_cell.proofs.Cells.Numbers.{at-stock}
+use Rattle.core_tree.specs.tree_shape.specs.Laws.{OtherLaw}
+use Rattle.core_tree.specs.volap_cell.specs.{AdminKinds.ReusesBlock, Cells.{CellValue, FreeCell, GateCell, StockCell, gone_in, phase_of, pins_in, stock_in}, Ghost.{Ghost, InTree, NotOfStock, is_unused}, Invariant.InvWith, Setting.Setting, Steps.{IsHere, Makes}, Values.ActorValue, View.view, World.{World, change, held}}
+use Rattle.core_tree.specs.volap_cell.proofs.Cells.Numbers.{at-stock}
 use Rattle.core_admin.specs.ReuseDue.{CanReuseBlock}
 use Rattle.core_admin.proofs.{Postponing.Returned.one, Reusing.FreesBlock.reuse-block-keeps, Reusing.FreesCells.in-tree}
-use Rattle.volap_cell.specs.declared.kind.Kind.TheVariants as kind
+use Rattle.core_tree.specs.volap_cell.specs.declared.kind.Kind.TheVariants as kind
 
 -- a cell in which a gate is seen
 pub gate-in : (c : CellValue) (p : Phase) → phase_of c ≡ Some p → (gate : Gate) × (c ≡ GateCell gate)

@@ -6,8 +6,8 @@ use Rattle.describing_set.specs.{Sets.IsDescSetOf, declared.plane.Plane.Plane, d
 use Rattle.dim_hierarchy.specs.Dimension.{Dimension}
 use Rattle.mapping_table.specs.declared.place.Where.{Where}
 use Rattle.server_image.specs.Registry.{RegistryValue}
-use Rattle.shard_store.specs.{Gate.IsQueueOf, declared.gate.Gate.Gate}
-use Rattle.volap_cell.specs.{AdminKinds.{IsGateFor, IsTrueBox}, Values.{BuildingValue, Builds, JobValue}, declared.job.BuiltTree.BuiltTree}
+use Rattle.core_tree.specs.shard_store.specs.{Gate.IsQueueOf, declared.gate.Gate.Gate}
+use Rattle.core_tree.specs.volap_cell.specs.{AdminKinds.{IsGateFor, IsTrueBox}, Values.{BuildingValue, Builds, JobValue}, declared.job.BuiltTree.BuiltTree}
 use Rattle.core_admin.specs.{BuildDue.side_of, FinishDue.IsLate, SplitDue.{DividesShard, EntersBoth, IsChildGate, MayDivideShard}}
 
 module _ (h : List Dimension) (plane : Plane) (left : Bool) (shard : ℕ) (tree : BuiltTree) (gate made : Gate) (late : IsLate h gate) (is : IsChildGate h plane left shard tree gate made) where

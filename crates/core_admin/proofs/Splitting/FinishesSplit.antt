@@ -1,25 +1,25 @@
 -- A split comes to its end: that keeps the invariant, and less is left.
 use Rattle.std.proofs.{Common.{◌≡◌, ◌≢◌, ℕ, ◌+◌, ◌-◌, ◌<◌, ◌^◌, Bool, true, false, cond, eqb, List, [], ◌∷◌, Option, Some, None, refl, sym, ap, ◌∙◌, subst, inl, inr, arith, eq-eqb, ◌≤◌, not, ◌++◌, filter, drop, ◌⊎◌}, lemmas.Bool.{eqb-true, eqb-false, ne_eqb, cases_lt, false≢true}, lemmas.List.map-append}
 use Rattle.cell_stock.specs.{Stock.{StockValue, cells_of}, declared.purse.Spare.Spare}
-use Rattle.volap_cell.proofs.{Cells.Spares.split-blank, Views.Admin.view-finish_split, Views.Frames.{actor-at, actor-off}, Views.Touches.IsBlank}
+use Rattle.core_tree.specs.volap_cell.proofs.{Cells.Spares.split-blank, Views.Admin.view-finish_split, Views.Frames.{actor-at, actor-off}, Views.Touches.IsBlank}
 use Rattle.dim_hierarchy.specs.{Dimension.Dimension, Rows.IsRowOf, declared.row.Row.Row}
 use Rattle.row_ledger.specs.{Laws.AscendFrom, LedgerValue.LedgerValue, Listings.places_of, Past.{before, work}, Right.{IsRightSplit, IsRightAction, EachEvent, Stands}, Shards.{is_live, ids_made, Place, children, frontier, is_of, place, worker_of}, Work.{Did, Settles, shard_of as shard_in}, Workers.is_on, declared.event.Event.Event, declared.event.Event.TheVariants.Split}
 use Rattle.shard_plan.specs.declared.action.Action.{Action}
 use Rattle.shard_plan.specs.declared.action.Action.TheVariants as action
 use Rattle.list_words.specs.Counts.{same, times, Each, Among}
 use Rattle.list_words.proofs.{Each.{each-both, each-left, each-right, each-filter, each-among}, Times.{same_is, same_not, times-append}, Truth.{on_bool, eqb-self}}
-use Rattle.tree_shape.specs.{Forest.{AreInCells, filled_cells}, Laws.{CollectEndLaw, OtherLaw, GateLaw}, Shape.{Shape, numbers, nodes}, Trees.IsTree}
-use Rattle.volap_cell.specs.{AdminKinds.{DoesFinishSplit, Finishes, IsTrueBox, left_of, right_of}, Cells.{stock_in, GateCell, block_in, way_in, CellValue, LedgerCell, MapCell, RegistryCell, StockCell, active_in, gate_shard, gone_in, has_block, phase_of, pins_in, queue_in, way_to_tree}, Ghost.{Ghost, Owner, InJob, InPurse, is_in_job, AGate}, Growing.table_of, Invariant.InvWith, Setting.{Setting, site_in}, Steps.{IsKept, Keeps}, Stocking.{cells_at, items_of_job, spent_of}, Values.{ActorValue, JobValue, IsCalled}, View.{View, view}, Working.{action_to, action_of, IsBuilding}, World.{Agrees, Change, World, after}}
-use Rattle.volap_cell.specs.declared.kind.Kind.TheVariants as kind
+use Rattle.core_tree.specs.tree_shape.specs.{Forest.{AreInCells, filled_cells}, Laws.{CollectEndLaw, OtherLaw, GateLaw}, Shape.{Shape, numbers, nodes}, Trees.IsTree}
+use Rattle.core_tree.specs.volap_cell.specs.{AdminKinds.{DoesFinishSplit, Finishes, IsTrueBox, left_of, right_of}, Cells.{stock_in, GateCell, block_in, way_in, CellValue, LedgerCell, MapCell, RegistryCell, StockCell, active_in, gate_shard, gone_in, has_block, phase_of, pins_in, queue_in, way_to_tree}, Ghost.{Ghost, Owner, InJob, InPurse, is_in_job, AGate}, Growing.table_of, Invariant.InvWith, Setting.{Setting, site_in}, Steps.{IsKept, Keeps}, Stocking.{cells_at, items_of_job, spent_of}, Values.{ActorValue, JobValue, IsCalled}, View.{View, view}, Working.{action_to, action_of, IsBuilding}, World.{Agrees, Change, World, after}}
+use Rattle.core_tree.specs.volap_cell.specs.declared.kind.Kind.TheVariants as kind
 use Rattle.core_admin.proofs.{Building.NewTree.{IsNewTree, leads-to, new-tree, fresh-at, tree-set}, EndedCells.blank-counts, Endings.{Ending, IsFinished, finished, right-action, closes, job-asked}, Jobs.FinishedJob.{frozen, live as live-here, all-rows, late, late-is, late-named, late-placed, late-valid, rows, rows-named, rows-placed, rows-valid, was, is-gate, phase-here, read, front}, Moving.BalanceDone.IsDoneBy, PlansAhead.split-ahead, Postponing.Returned.one, Retiring.Gates.{Retiring, given_to}, SharedRows.{SharesRows, shared_ghost}, Splitting.SplitBoxes.{AreShardRows, child-box}, Splitting.SplitKnown.{split-boxes, IsChildBox, split-lines, split_home, home-in, home-off}, Splitting.SplitShards.{left-live, live-before, live-still, right-live, off-left, off-right, others, places-split, shard-made, spot-worker, spots-made, spots-split}, Splitting.SplitSides.{AreTwo, job-cell as cell_of_job, left-rows, left-test, own-blocks, owner-filled as owner_of_filled, right-rows, right-test, side as side_of_row, side-times, spent-left, spent-right, two as two_of}, Splitting.SplitsLineage.{Splitting, apart, gate-made, not-left, not-right, split-leads}, Splitting.SplitsShard.{ledger-now, stock-now, at-x, kept, l-now, owner-l, owner-r, r-now, gates-apart, purse-cells, x-now, registry-now, split-tables, tables-off}}
 use Rattle.row_ledger.proofs.{Ascent.frontier-ascends, Descent.live-made, Growth.KeepsRight-split}
 use Rattle.describing_set.specs.{DescSet.IsSetOf, Plane.goes_left, declared.listing.Spot.Spot}
-use Rattle.link_descent.specs.declared.entered.Fresh.{Fresh}
+use Rattle.core_tree.specs.link_descent.specs.declared.entered.Fresh.{Fresh}
 use Rattle.std.specs.{FinMap.FinMap, List.list_any, Ordering.nat_cmp}
 use Rattle.dc_node.specs.{Summary.coords, declared.entry.Entry.Entry}
 use Rattle.mapping_table.specs.declared.place.Where.{Where}
 use Rattle.server_image.specs.{Registry.RegistryValue, Spots.without}
-use Rattle.shard_store.specs.{Gate.IsQueueOf, declared.gate.Gate.Gate, declared.gate.Phase.TheVariants.Open}
+use Rattle.core_tree.specs.shard_store.specs.{Gate.IsQueueOf, declared.gate.Gate.Gate, declared.gate.Phase.TheVariants.Open}
 use Rattle.core_image.proofs.Commands.Jobs.{items-new, spent-new}
 
 -- what is so of two lists is so of both together

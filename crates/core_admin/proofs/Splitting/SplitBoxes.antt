@@ -7,8 +7,8 @@ use Rattle.describing_set.specs.{DescSet.IsSetOf, declared.set.DescSet.DescSet}
 use Rattle.row_ledger.specs.Bounds.{may}
 use Rattle.list_words.specs.Counts.{Each, same, times}
 use Rattle.list_words.proofs.{Each.{each-both, all-each, each-append}, Times.{times-append, same_is}}
-use Rattle.tree_shape.specs.{Laws.GateLaw, Shape.numbers}
-use Rattle.volap_cell.specs.{AdminKinds.IsTrueBox, Ghost.Ghost, Invariant.InvWith, Setting.Setting, Values.JobValue, View.{View, view}, World.World}
+use Rattle.core_tree.specs.tree_shape.specs.{Laws.GateLaw, Shape.numbers}
+use Rattle.core_tree.specs.volap_cell.specs.{AdminKinds.IsTrueBox, Ghost.Ghost, Invariant.InvWith, Setting.Setting, Values.JobValue, View.{View, view}, World.World}
 use Rattle.core_admin.proofs.{Collecting.ShardRows.{is-allowed, row-of}, Splitting.SplitKnown.IsChildBox}
 
 coords-valid : (h : List Dimension) (rows : List Row) → Each (IsRowOf h) rows → All (IsCoordOf h) (coords rows)

@@ -4,7 +4,7 @@ use Rattle.std.specs.Prelude.{if◌then◌else◌}
 use Rattle.row_ledger.specs.{Bounds.may, Listings.IsBox, Right.{EachEvent, IsRightSplit, Stands}, Shards.{comes_from, frontier, ids_made, is_live}, declared.event.Event.Event, declared.event.Event.TheVariants.Split}
 use Rattle.row_ledger.proofs.{Changes.split-changes, Descent.{comes_from-older, live-made}}
 use Rattle.list_words.proofs.{Elements.Contains-map, Truth.on_bool}
-use Rattle.volap_cell.specs.{Ghost.Ghost, Growing.IsUnder, Imaging.Fits, Invariant.InvWith, Setting.{Setting, site_in}, View.{View, view}, World.World}
+use Rattle.core_tree.specs.volap_cell.specs.{Ghost.Ghost, Growing.IsUnder, Imaging.Fits, Invariant.InvWith, Setting.{Setting, site_in}, View.{View, view}, World.World}
 use Rattle.core_admin.proofs.{ShardLines.{KeepsLines, KeepsBoxes}, Splitting.SplitShards.{live-before, worker-found, without-first, without-next}}
 use Rattle.dim_hierarchy.specs.{Row.IsCoordOf, declared.row.Row.Row}
 use Rattle.dc_node.specs.Summary.{coords}

@@ -9,11 +9,11 @@ use Rattle.mapping_table.specs.declared.place.Where.TheVariants as where_is
 use Rattle.row_ledger.specs.LedgerValue.{LedgerValue}
 use Rattle.row_ledger.specs.declared.event.Event.TheVariants as event
 use Rattle.server_image.specs.Registry.{RegistryValue, IsSplit}
-use Rattle.shard_store.specs.declared.gate.Gate.{Gate}
-use Rattle.tree_shape.specs.Laws.{CollectEndLaw, GateLaw, OtherLaw}
-use Rattle.volap_cell.specs.{AdminKinds.{DoesFinishSplit, IsGateFor, IsTrueBox, left_of}, Cells.{CellValue, GateCell, LedgerCell, MapCell, MapOf, RegistryCell, StockCell, stock_in, tag_of}, Steps.{IsHere, Makes}, Values.{ActorValue, BuildingValue, JobValue}, Working.IsJobOf, World.{change, held}, declared.command.Command.Command, declared.command.Work.Work}
-use Rattle.volap_cell.specs.declared.command.Work.TheVariants as work_is
-use Rattle.volap_cell.specs.declared.kind.Kind.TheVariants as kind
+use Rattle.core_tree.specs.shard_store.specs.declared.gate.Gate.{Gate}
+use Rattle.core_tree.specs.tree_shape.specs.Laws.{CollectEndLaw, GateLaw, OtherLaw}
+use Rattle.core_tree.specs.volap_cell.specs.{AdminKinds.{DoesFinishSplit, IsGateFor, IsTrueBox, left_of}, Cells.{CellValue, GateCell, LedgerCell, MapCell, MapOf, RegistryCell, StockCell, stock_in, tag_of}, Steps.{IsHere, Makes}, Values.{ActorValue, BuildingValue, JobValue}, Working.IsJobOf, World.{change, held}, declared.command.Command.Command, declared.command.Work.Work}
+use Rattle.core_tree.specs.volap_cell.specs.declared.command.Work.TheVariants as work_is
+use Rattle.core_tree.specs.volap_cell.specs.declared.kind.Kind.TheVariants as kind
 use Rattle.core_tree.proofs.Calls.Behind.{last-same}
 use Rattle.core_admin.specs.{FinishDue.{ClosesDone, IsLate, plans}, SplitDue.{CanFinishSplit, DividesShard, FinishesDivided, with_children}}
 use Rattle.core_admin.proofs.{Building.BuiltUp.its-job, Moving.MoveMade.{finishes-as, same-building}, Splitting.FinishesSplit.split-keeps, Splitting.SplitReady.{late-here, to-none}}

@@ -7,12 +7,12 @@ use Rattle.dim_hierarchy.specs.Dimension.{Dimension}
 use Rattle.mapping_table.specs.declared.place.Where.{Where}
 use Rattle.row_ledger.specs.LedgerValue.{LedgerValue}
 use Rattle.server_image.specs.Registry.{RegistryValue, on_frontier}
-use Rattle.shard_store.specs.declared.gate.Gate.{Gate}
+use Rattle.core_tree.specs.shard_store.specs.declared.gate.Gate.{Gate}
 use Rattle.list_words.specs.Counts.{Among}
 use Rattle.list_words.proofs.Each.{among-right}
-use Rattle.tree_shape.specs.Laws.{CollectEndLaw, GateLaw}
-use Rattle.volap_cell.specs.{Cells.{CellValue, GateCell, LedgerCell, MapCell, RegistryCell, StockCell}, Ghost.{Ghost, InPurse}, Invariant.InvWith, Setting.Setting, Steps.IsHere, Values.{ActorValue, JobValue}, View.{View, view}, World.{Change, World, held}}
-use Rattle.volap_cell.proofs.{Cells.Blanks.spare-owner, Cells.Spares.among-cells, Views.Shown.held-map}
+use Rattle.core_tree.specs.tree_shape.specs.Laws.{CollectEndLaw, GateLaw}
+use Rattle.core_tree.specs.volap_cell.specs.{Cells.{CellValue, GateCell, LedgerCell, MapCell, RegistryCell, StockCell}, Ghost.{Ghost, InPurse}, Invariant.InvWith, Setting.Setting, Steps.IsHere, Values.{ActorValue, JobValue}, View.{View, view}, World.{Change, World, held}}
+use Rattle.core_tree.specs.volap_cell.proofs.{Cells.Blanks.spare-owner, Cells.Spares.among-cells, Views.Shown.held-map}
 use Rattle.core_admin.specs.{FinishDue.IsLate, SplitDue.{CanFinishSplit, MayDivideShard, MayFinishSplit, SplitsInto}}
 use Rattle.core_admin.proofs.{Building.BuiltUp.{enough-promised, frozen-here, is-drained, is-late, is-listed, its-front, job-here, job-same, known, may-close, purse-here, rest-out, stock-here, there}, KnownIds.{next-nowhere, next-off}, Splitting.SplitSides.{left-valid, right-valid}}
 

@@ -5,14 +5,14 @@ use Rattle.cell_stock.specs.{Stock.{PurseValue, cells_of}, declared.purse.Spare.
 use Rattle.dc_node.specs.Summary.{coords}
 use Rattle.describing_set.specs.{Plane.goes_left, Sets.IsDescSetOf, declared.plane.Plane.Plane}
 use Rattle.dim_hierarchy.specs.{Row.IsCoordOf, Rows.IsRowOf, declared.row.Row.Row}
-use Rattle.link_descent.specs.declared.entered.Fresh.{Fresh}
-use Rattle.shard_build.specs.{Building.spare_of, Built.IsBuilt, declared.builder.Built.Built}
-use Rattle.shard_store.specs.{declared.gate.Gate.Gate, declared.gate.Phase.TheVariants.Frozen}
+use Rattle.core_tree.specs.link_descent.specs.declared.entered.Fresh.{Fresh}
+use Rattle.core_tree.specs.shard_build.specs.{Building.spare_of, Built.IsBuilt, declared.builder.Built.Built}
+use Rattle.core_tree.specs.shard_store.specs.{declared.gate.Gate.Gate, declared.gate.Phase.TheVariants.Frozen}
 use Rattle.list_words.specs.Counts.{Among, Each, times}
 use Rattle.list_words.proofs.{Each.{each-map, all-each, among-left, among-right, each-here, each-left, each-right, each-filter}, Times.{times-append, same_not}, Truth.on_bool}
-use Rattle.tree_shape.specs.{Forest.{AreInCells, AreRowsOf, filled_cells}, Laws.{CollectEndLaw, GateLaw}, Shape.{Table, numbers}}
-use Rattle.volap_cell.specs.{AdminKinds.{left_of, right_of, spent_by, tree_of}, Cells.GateCell, Ghost.{Ghost, InJob, InPurse, is_in_job}, Growing.table_of, Invariant.InvWith, Setting.Setting, Stocking.spent_of, Values.{BuildingValue, Builds, JobValue}, View.{View, view}, Working.IsBuilding, World.World, declared.job.BuiltTree.BuiltTree}
-use Rattle.volap_cell.proofs.{Cells.Blanks.spent-owner, Cells.Spares.among-cells}
+use Rattle.core_tree.specs.tree_shape.specs.{Forest.{AreInCells, AreRowsOf, filled_cells}, Laws.{CollectEndLaw, GateLaw}, Shape.{Table, numbers}}
+use Rattle.core_tree.specs.volap_cell.specs.{AdminKinds.{left_of, right_of, spent_by, tree_of}, Cells.GateCell, Ghost.{Ghost, InJob, InPurse, is_in_job}, Growing.table_of, Invariant.InvWith, Setting.Setting, Stocking.spent_of, Values.{BuildingValue, Builds, JobValue}, View.{View, view}, Working.IsBuilding, World.World, declared.job.BuiltTree.BuiltTree}
+use Rattle.core_tree.specs.volap_cell.proofs.{Cells.Blanks.spent-owner, Cells.Spares.among-cells}
 use Rattle.core_admin.proofs.{Building.BuildsBlock.among-spent, Building.NewTree.{cells-spent, contains-among, new-tree, tree-set}, Jobs.FinishedJob.{is-job-cell, once, rows, rows-named, rows-valid, spent-is, was}}
 
 -- Sides of lists.

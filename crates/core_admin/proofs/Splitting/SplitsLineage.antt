@@ -7,8 +7,8 @@ use Rattle.mapping_table.specs.declared.place.Where.TheVariants as where_is
 use Rattle.row_ledger.specs.{Listings.places_of, Past.{Children, split_in}, Right.{EachEvent, IsRightSplit, Stands}, Shards.{frontier, ids_made, is_child, is_live}, Workers.{is_on, left_at}, declared.event.Event.Event, declared.event.Event.TheVariants.Split}
 use Rattle.row_ledger.proofs.Changes.{split-changes}
 use Rattle.list_words.proofs.Truth.{on_bool}
-use Rattle.volap_cell.specs.{Ghost.Ghost, Invariant.InvWith, Lineage.{was_on, went_to}, Setting.{Setting, site_in}, View.View}
-use Rattle.volap_cell.proofs.Histories.Departures.{on-stays-at}
+use Rattle.core_tree.specs.volap_cell.specs.{Ghost.Ghost, Invariant.InvWith, Lineage.{was_on, went_to}, Setting.{Setting, site_in}, View.View}
+use Rattle.core_tree.specs.volap_cell.proofs.Histories.Departures.{on-stays-at}
 use Rattle.core_admin.proofs.{Retiring.Gates.Retiring, SharedLineage.{IsNewEntry, LeadsOn}, Splitting.SplitShards.{left-live, left-on, off-left, off-right, on-before, on-still, right-live, right-on}}
 
 -- The table and the registry. The shard's worker leads from it to its children, and from these to the gates yl and yr.

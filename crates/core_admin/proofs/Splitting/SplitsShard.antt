@@ -9,8 +9,8 @@ use Rattle.row_ledger.specs.{LedgerValue.LedgerValue, declared.event.Event.TheVa
 use Rattle.server_image.specs.Registry.{RegistryValue}
 use Rattle.list_words.specs.Counts.{Among, same, times}
 use Rattle.list_words.proofs.{Each.among-right, Times.same_is, Truth.on_bool}
-use Rattle.volap_cell.specs.{AdminKinds.DoesFinishSplit, Cells.{CellValue, GateCell, LedgerCell, MapCell, MapOf, RegistryCell, StockCell, ledger_in, tag_of}, Ghost.{Ghost, InPurse, Owner, is_in_purse}, Invariant.InvWith, Setting.Setting, Values.ActorValue, View.{View, view}, World.{Agrees, Change, World, after}}
-use Rattle.volap_cell.proofs.{Cells.Blanks.spare-owner, Cells.Spares.{among-cells, split-blank}, Views.Fields.IsNew, Views.Touches.IsBlank}
+use Rattle.core_tree.specs.volap_cell.specs.{AdminKinds.DoesFinishSplit, Cells.{CellValue, GateCell, LedgerCell, MapCell, MapOf, RegistryCell, StockCell, ledger_in, tag_of}, Ghost.{Ghost, InPurse, Owner, is_in_purse}, Invariant.InvWith, Setting.Setting, Values.ActorValue, View.{View, view}, World.{Agrees, Change, World, after}}
+use Rattle.core_tree.specs.volap_cell.proofs.{Cells.Blanks.spare-owner, Cells.Spares.{among-cells, split-blank}, Views.Fields.IsNew, Views.Touches.IsBlank}
 use Rattle.core_admin.proofs.{EndedCells.{EndsCells, at-x as at_x, get-other, get-same, kept as cells_kept, ledger-now as ledger_now, ledger-of, new-now, registry-now as registry_now, stock-now as stock_now, table-now, tables-off as tables_off, x-now as x_now}, Postponing.Returned.{cells-append, one}}
 
 one-few : (n : ℕ) (o : Owner) → one (is_in_purse n o) ≤ 1

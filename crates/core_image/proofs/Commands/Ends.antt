@@ -8,8 +8,8 @@ use Rattle.query_router.specs.declared.part.Verdict.TheVariants as verdict
 use Rattle.row_ledger.specs.{Kept.KeepsRight, Past.{Insert, Query, event_at, has_ended, insert_at, query_at, session_in}, declared.event.Event.Event, declared.event.Event.TheVariants.Failed}
 use Rattle.list_words.proofs.{Elements.Contains-nil, Truth.on_bool}
 use Rattle.row_ledger.proofs.Growth.{KeepsRight-failed}
-use Rattle.shard_store.specs.declared.queue.Queue.{Queue}
-use Rattle.tree_shape.specs.Shape.{Shape}
+use Rattle.volap_cell.specs.shard_store.specs.declared.queue.Queue.{Queue}
+use Rattle.volap_cell.specs.tree_shape.specs.Shape.{Shape}
 use Rattle.volap_cell.specs.{Desking.{Desking, is_on_desk}, Errands.{RowWay, Taken}, ImageKinds.{cleared, doing}, Owing.{one_if, serves}, Placing.Placing, Setting.{Setting, actor_count, site_in}, Sums.sum_below, Telling.Telling, Values.JobValue, declared.command.Command.Command, declared.role.Role.Role}
 use Rattle.volap_cell.specs.declared.command.Work.TheVariants as work_is
 use Rattle.volap_cell.proofs.Views.Fields.{IsNewAt}

@@ -3,10 +3,10 @@ use Rattle.std.proofs.{Common.{◌≡◌, ◌≢◌, ℕ, ◌<◌, ◌++◌, Lis
 use Rattle.cell_stock.specs.{Stock.{StockValue, cells_of}, declared.purse.Spare.Spare}
 use Rattle.dc_node.specs.{declared.block.Block.Block, declared.todo.Item.Item}
 use Rattle.row_ledger.specs.{Workers.is_on, declared.event.Event.Event, declared.settings.Decline.Decline}
-use Rattle.shard_store.specs.{declared.gate.Gate.Gate, declared.gate.Phase.Phase, declared.queue.Queue.Queue}
+use Rattle.volap_cell.specs.shard_store.specs.{declared.gate.Gate.Gate, declared.gate.Phase.Phase, declared.queue.Queue.Queue}
 use Rattle.list_words.specs.Counts.{Each, times}
 use Rattle.list_words.proofs.Truth.{on_bool}
-use Rattle.tree_shape.specs.{Queries.NoneWaits, Shape.{Shape, nodes}, Steps.{AreApart, AreSpares}}
+use Rattle.volap_cell.specs.tree_shape.specs.{Queries.NoneWaits, Shape.{Shape, nodes}, Steps.{AreApart, AreSpares}}
 use Rattle.volap_cell.specs.{Cells.Tag, Errands.{ReadPart, Taken}, Ghost.Owner, Numbering.Numbering, Setting.{Setting, actor_count}, Stocking.{LeavesStamp, Stamping, Stocking, all_items, all_spares, items_of_job, items_of_read, spent_of, cells_at}, Values.{JobValue, StageValue, IsCalled, IsDeclined}, Working.{Balancing, IsBalancing, IsJobOf, Working, frozen_in}, declared.command.Balance.Balance, declared.command.Command.Command, declared.command.Work.Work, declared.role.Role.Role, declared.role.Role.TheVariants.Admin}
 use Rattle.volap_cell.specs.declared.command.Work.TheVariants as work_is
 use Rattle.volap_cell.proofs.Views.Fields.{IsNewAt}

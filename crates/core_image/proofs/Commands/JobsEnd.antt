@@ -3,8 +3,8 @@ use Rattle.std.proofs.{Common.{◌≡◌, ◌≢◌, ℕ, List, [], Bool, eqb, O
 use Rattle.cell_stock.specs.{Stock.StockValue, declared.purse.Spare.Spare}
 use Rattle.dc_node.specs.declared.block.Block.{Block}
 use Rattle.row_ledger.specs.declared.event.Event.{Event}
-use Rattle.shard_store.specs.{declared.gate.Gate.Gate, declared.gate.Phase.Phase, declared.queue.Queue.Queue}
-use Rattle.tree_shape.specs.Shape.{Shape}
+use Rattle.volap_cell.specs.shard_store.specs.{declared.gate.Gate.Gate, declared.gate.Phase.Phase, declared.queue.Queue.Queue}
+use Rattle.volap_cell.specs.tree_shape.specs.Shape.{Shape}
 use Rattle.list_words.proofs.Truth.{on_bool}
 use Rattle.volap_cell.specs.{Cells.Tag, Errands.{ReadPart, Taken}, Ghost.Owner, Numbering.Numbering, Setting.Setting, Stocking.{Stamping, Stocking, items_of_job, spent_of}, Values.JobValue, Working.{Balancing, IsBalancing, Working}, declared.command.Command.Command, declared.role.Role.Role, declared.role.Role.TheVariants.Admin}
 use Rattle.volap_cell.proofs.Views.Fields.{IsNewAt}

@@ -8,8 +8,8 @@ use Rattle.mapping_table.specs.declared.place.Where.{Where}
 use Rattle.query_router.specs.{Desk.{DeskValue, is_open, is_refused, is_taken, is_with}, declared.part.Part.Part}
 use Rattle.row_ledger.specs.{Past.{Insert, Query, insert_at, query_at}, declared.event.Event.Event}
 use Rattle.server_image.specs.Image.{ImageValue}
-use Rattle.shard_store.specs.declared.gate.Gate.{Gate}
-use Rattle.tree_shape.specs.{Queries.fits, Shape.Shape}
+use Rattle.volap_cell.specs.shard_store.specs.declared.gate.Gate.{Gate}
+use Rattle.volap_cell.specs.tree_shape.specs.{Queries.fits, Shape.Shape}
 use Rattle.list_words.proofs.Truth.{on_bool}
 use Rattle.volap_cell.specs.{Desking.{Desking, IsInsertState, IsQueryPart, IsQueryState, IsTaken, AreLinesApart, is_on_desk}, Errands.{ReadPart, RowWay, Taken}, Growing.{IsUnder, table_of}, Lineage.Leading, Placing.{Inserting, IsRowPart}, Querying.{Querying, IsCounted, IsEndOfPart, IsReading, must_hold}, Setting.Setting, declared.command.Command.Command, declared.role.Role.Role, declared.role.Role.TheVariants.Session}
 use Rattle.volap_cell.specs.declared.command.Work.TheVariants as work_is

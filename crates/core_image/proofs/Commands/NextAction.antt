@@ -3,7 +3,7 @@ use Rattle.std.proofs.{Common.{◌≡◌, ℕ, zero, suc, ◌+◌, ◌<◌, ◌�
 use Rattle.std.specs.{List.AllZip, Prelude.{count_by, IsTrue}}
 use Rattle.row_ledger.specs.{Changes.ShardsStay, Past.{Step, before, work}, Shards.{comes_from, frontier}, Work.{AreReadOf, IsCause, IsRightDecline, Settles, is_done, shard_of}, Workers.is_on, declared.event.Event.Event, declared.event.Event.TheVariants.Left, declared.settings.Decline.Decline, declared.settings.How.How}
 use Rattle.row_ledger.proofs.{Changes.quiet, Positions.before-older}
-use Rattle.shard_build.proofs.Lists.{zip-append}
+use Rattle.volap_cell.specs.shard_build.proofs.Lists.{zip-append}
 use Rattle.shard_plan.specs.{declared.action.Action.Action, declared.action.Load.Load}
 use Rattle.shard_plan.specs.declared.action.Action.TheVariants as action
 use Rattle.volap_cell.proofs.{OneEvent.Older.{Any-weaker, comes-stays, live-stays}, OneEvent.Work.{ahead-grown, read-load-grown}}

@@ -9,7 +9,7 @@ use Rattle.query_router.specs.declared.part.Want.TheVariants as want
 use Rattle.row_ledger.specs.{Bounds.known, Kept.KeepsRight, Laws.AscendFrom, Past.{Ack, Insert, Query, insert_at, insert_in, query_at, query_in}, declared.event.Event.Event, declared.event.Event.TheVariants.Asked}
 use Rattle.list_words.proofs.{Elements.{Contains-filter, Contains-filtered, Contains-map}, Truth.{on_bool, eqb-self}}
 use Rattle.row_ledger.proofs.Growth.{KeepsRight-asked}
-use Rattle.tree_shape.specs.Queries.{fits}
+use Rattle.volap_cell.specs.tree_shape.specs.Queries.{fits}
 use Rattle.volap_cell.specs.{Desking.{IsQueryPart, IsQueryState, IsTaken, AreLinesApart, is_on_desk}, Errands.{ReadPart, Taken}, Falls.{control_of, gates_of_part, gates_of_work, left, of_work, rows_of_part}, Ghost.Ghost, Growing.{IsUnder, table_of}, ImageKinds.{DoesBeginQuery, query_part}, Imaging.{IsImageOf, IsCovered}, Invariant.InvWith, Owing.{Owing, is_insert, one_if, owed_by, serves}, Querying.{IsCounted, IsEndOfPart, must_hold}, Setting.{Setting, actor_count, site_in}, Steps.{IsKept, Keeps}, Telling.{IsProgress, Telling}, Values.{ActorValue, JobValue}, View.{View, view, row_at}, World.{World, Change, Agrees, after}, declared.command.Command.Command, declared.role.Role.TheVariants.{Hand, Session}}
 use Rattle.volap_cell.specs.declared.command.Work.TheVariants as work_is
 use Rattle.volap_cell.specs.declared.kind.Kind.TheVariants as kind

@@ -8,8 +8,8 @@ use Rattle.mapping_table.specs.declared.place.Where.{Where}
 use Rattle.query_router.specs.{Desk.{DeskValue, is_open, is_refused, is_taken, is_with}, declared.part.Part.Part}
 use Rattle.row_ledger.specs.declared.event.Event.{Event}
 use Rattle.server_image.specs.Image.{ImageValue}
-use Rattle.shard_store.specs.{declared.gate.Gate.Gate, declared.gate.Phase.Phase, declared.queue.Queue.Queue}
-use Rattle.tree_shape.specs.Shape.{Shape}
+use Rattle.volap_cell.specs.shard_store.specs.{declared.gate.Gate.Gate, declared.gate.Phase.Phase, declared.queue.Queue.Queue}
+use Rattle.volap_cell.specs.tree_shape.specs.Shape.{Shape}
 use Rattle.list_words.proofs.Truth.{on_bool}
 use Rattle.volap_cell.specs.{Cells.Tag, Desking.{Desking, IsInsertState, IsQueryPart, IsQueryState, IsTaken, AreLinesApart}, Errands.{ReadPart, RowWay, Taken}, Growing.IsUnder, ImageKinds.cleared, Lineage.Leading, Numbering.Numbering, Placing.{Inserting, IsRowPart}, Querying.{Querying, IsCounted, IsEndOfPart}, Setting.Setting, Values.JobValue, Working.{Balancing, Working}, declared.command.Command.Command, declared.role.Role.Role, declared.role.Role.TheVariants.Session}
 use Rattle.volap_cell.proofs.Views.Fields.{IsNewAt}

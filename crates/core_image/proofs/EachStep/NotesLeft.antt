@@ -10,8 +10,8 @@ use Rattle.row_ledger.specs.declared.settings.How.TheVariants as how_is
 use Rattle.row_ledger.proofs.{Changes.quiet, Growth.KeepsRight-left}
 use Rattle.server_image.specs.Image.{ImageValue}
 use Rattle.shard_plan.specs.declared.action.Action.{Action}
-use Rattle.shard_store.specs.declared.queue.Queue.{Queue}
-use Rattle.tree_shape.specs.Shape.{Shape}
+use Rattle.volap_cell.specs.shard_store.specs.declared.queue.Queue.{Queue}
+use Rattle.volap_cell.specs.tree_shape.specs.Shape.{Shape}
 use Rattle.list_words.proofs.Truth.{on_bool}
 use Rattle.core_image.specs.NotesDue.{CanNoteLeft, GoesOn}
 use Rattle.core_image.proofs.{Commands.Backed.all-promised, Commands.Endings.never-unknown, Commands.Ends.only-its, Commands.Jobs.{items-new, spent-new, stamping-alike, stocking-alike, not-declined}, Commands.NextAction.{balancing-next, next-is, within, inside, next-action}, Commands.Owed.{owed-others, promises-now}, Lessens.Remains.{control_at, control-changed}}

@@ -9,8 +9,8 @@ use Rattle.row_ledger.specs.declared.page.Page.TheVariants as page
 use Rattle.row_ledger.proofs.{Descent.{live-last, live-made}, Ended.acked-distinct}
 use Rattle.list_words.proofs.{Elements.{Contains-filtered, Contains-map, Contains-mapped, Contains-nil, IsTrue-filtered, Contains-first}, Times.{length-le, same_is, same_not}, Truth.on_bool}
 use Rattle.list_words.specs.Counts.{Each, same, times}
-use Rattle.tree_shape.specs.Shape.{numbers}
-use Rattle.tree_shape.proofs.Cutting.Parts.{total-permuted}
+use Rattle.volap_cell.specs.tree_shape.specs.Shape.{numbers}
+use Rattle.volap_cell.specs.tree_shape.proofs.Cutting.Parts.{total-permuted}
 use Rattle.volap_cell.specs.{Ghost.Ghost, Invariant.InvWith, Setting.{Setting, site_in}, Sights.{HasAll, HasRows, SeesAudit, SeesLine, SeesPage}, View.{View, view, row_at}, World.World}
 use Rattle.core_image.proofs.{Answered.distinct-once, Images.Valid.acked-placed, Pages.RowsDivided.{count-parts, count-rows, home-once, its-gate}}
 

@@ -7,7 +7,7 @@ use Rattle.row_ledger.specs.{Laws.AscendFrom, Listings.places_of, Past.{Insert, 
 use Rattle.row_ledger.proofs.{Ascent.frontier-ascends, Fresh.event_at-within}
 use Rattle.list_words.specs.Counts.{same, times}
 use Rattle.list_words.proofs.{Times.{times-append, same_is, same_not}, Truth.on_bool}
-use Rattle.tree_shape.specs.Shape.{numbers}
+use Rattle.volap_cell.specs.tree_shape.specs.Shape.{numbers}
 use Rattle.volap_cell.specs.{Ghost.Ghost, Invariant.InvWith, Setting.{Setting, site_in}, Sights.{HasAll, HasRows}, View.{View, view}, World.World}
 use Rattle.volap_cell.proofs.Counting.{length-few}
 

@@ -4,7 +4,7 @@ use Rattle.std.proofs.Common.{◌≡◌, ℕ, ◌≤◌, Bool, true, false, List
 use Rattle.dim_hierarchy.specs.{Dimension.Dimension, declared.row.Row.Row}
 use Rattle.dc_node.specs.{Block.is_full, declared.block.Block.Block}
 use Rattle.cell_stock.specs.{Stock.PurseValue, declared.purse.Spare.Spare}
-use Rattle.link_descent.specs.{Descend.StepsDown, declared.entered.Entered.Entered, declared.entered.Fresh.Fresh}
+use Rattle.volap_cell.specs.link_descent.specs.{Descend.StepsDown, declared.entered.Entered.Entered, declared.entered.Fresh.Fresh}
 use Rattle.list_words.specs.Counts.{Each}
 use Rattle.volap_cell.specs.{Cells.{CellValue, BlockCell, block_in}, NewBlocks.HaveNew, TreeKinds.{AreFilled, AreBehind, IsTailIf, IsTailOf, blocks_of, most_behind}, World.{Change, change_if, held_if}}
 use Rattle.core_tree.specs.Descent.{AreForNew, AreLast, block_if, blocks_if, two_if}

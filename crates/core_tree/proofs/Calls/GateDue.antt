@@ -7,11 +7,11 @@ use Rattle.mapping_table.specs.declared.place.Where.TheVariants as where_is
 use Rattle.measure_agg.specs.Aggregate.{Aggregate}
 use Rattle.dc_node.specs.Summary.{coords}
 use Rattle.row_ledger.specs.Past.{Query, query_at}
-use Rattle.shard_store.specs.{Gate.IsQueueOf, declared.gate.Gate.Gate}
+use Rattle.volap_cell.specs.shard_store.specs.{Gate.IsQueueOf, declared.gate.Gate.Gate}
 use Rattle.list_words.specs.Counts.{times}
 use Rattle.list_words.proofs.Truth.{on_bool}
-use Rattle.tree_shape.specs.{Laws.{BeginLaw, GateLaw, OtherLaw, RootLaw}, Shape.numbers}
-use Rattle.tree_shape.proofs.Whole.Sums.{coords-valid}
+use Rattle.volap_cell.specs.tree_shape.specs.{Laws.{BeginLaw, GateLaw, OtherLaw, RootLaw}, Shape.numbers}
+use Rattle.volap_cell.specs.tree_shape.proofs.Whole.Sums.{coords-valid}
 use Rattle.volap_cell.specs.{Cells.{CellValue, FreeCell, LedgerCell, StockCell, RegistryCell, ImageCell, DeskCell, MapCell, GateCell, BlockCell, gate_shard, pins_in, queue_in, way_in}, Errands.{ReadPart, Taken, taken_by, taken_of, read_of, read_in_task, want_of}, Ghost.Ghost, Growing.table_of, Invariant.InvWith, Querying.{pins_of, one_pin}, Setting.{Setting, actor_count}, Steps.{IsHere, Makes}, Stocking.cells_at, TreeKinds.{DoesGateRead, Leads}, Values.{ActorValue, ErrandValue, ReadingValue, TaskValue, OfRow, Unread, Read}, View.{View, view}, World.{World, change, held}, declared.kind.Kind.TheVariants.GateRead}
 use Rattle.volap_cell.proofs.{Counting.{length-few, passing, passing-once, sum-keyed}, Desks.Queries.{IsQueryPart, query-part, alone}}
 use Rattle.core_tree.proofs.{EachStep.ReadsGate.{IsShardGate, shard-gate, read-keeps, few-same}, Queries.Walkers.{asked-of, home-at, placed-older, rows-under, tree-few}}

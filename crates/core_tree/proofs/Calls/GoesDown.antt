@@ -4,10 +4,10 @@ use Rattle.std.proofs.{Common.{◌≡◌, ℕ, ◌+◌, ◌*◌, ◌^◌, ◌<�
 use Rattle.dim_hierarchy.specs.{Dimension.{Dimension, IsHierarchy}, Rows.IsRowOf, declared.row.Row.Row}
 use Rattle.cell_stock.specs.{Stock.PurseValue, declared.purse.Spare.Spare}
 use Rattle.dc_node.specs.{Block.{is_full, entries_in, IsBodyOf}, Summary.row_count, declared.block.Block.Block, declared.entry.Entry.Entry}
-use Rattle.link_descent.specs.{Descend.StepsDown, Divide.together, Pick.IsPick}
+use Rattle.volap_cell.specs.link_descent.specs.{Descend.StepsDown, Divide.together, Pick.IsPick}
 use Rattle.list_words.specs.Counts.{Each}
 use Rattle.list_words.proofs.{Each.{each-map, each-left}, Truth.on_bool}
-use Rattle.tree_shape.specs.{Laws.{OtherLaw, CollectOtherLaw, DownLaw, GateLaw, BlockLaw, ChildLaw, BehindLaw, BehindFitsLaw}, Shape.{Table, TreeCells, Shape}, Trees.{IsBelow, BlockFits, BehindFits, cells_behind}}
+use Rattle.volap_cell.specs.tree_shape.specs.{Laws.{OtherLaw, CollectOtherLaw, DownLaw, GateLaw, BlockLaw, ChildLaw, BehindLaw, BehindFitsLaw}, Shape.{Table, TreeCells, Shape}, Trees.{IsBelow, BlockFits, BehindFits, cells_behind}}
 use Rattle.volap_cell.specs.{Cells.{CellValue, BlockCell, block_in, has_block}, Errands.{row_way, way_of, place_of}, Ghost.Ghost, Growing.table_of, Invariant.InvWith, NewBlocks.WentDown, Setting.Setting, Steps.{IsHere, Makes}, Stocking.cells_at, TreeKinds.{DoesDown, HasRow, IsTailIf, IsTailOf, blocks_of, on_way}, Values.{ActorValue, ErrandValue, OfRow}, View.{View, view}, World.{World, Change, change, change_if, held, held_if}, declared.errand.RowErrand.RowErrand, declared.errand.Way.TheVariants.Carried, declared.kind.Kind.TheVariants.Down}
 use Rattle.volap_cell.proofs.Actors.{row-at}
 use Rattle.core_tree.specs.Descent.{AreForNew, CanDown, CanStep, blocks_if, two_if}

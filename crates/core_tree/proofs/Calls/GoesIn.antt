@@ -5,12 +5,12 @@ use Rattle.dim_hierarchy.specs.{Dimension.{Dimension, IsHierarchy}, Rows.IsRowOf
 use Rattle.describing_set.specs.Sets.{IsDescSetOf}
 use Rattle.cell_stock.specs.{Stock.PurseValue, declared.purse.Spare.Spare}
 use Rattle.dc_node.specs.{Block.{is_full, IsBodyOf}, Summary.row_count, declared.block.Block.Block}
-use Rattle.link_descent.specs.{Descend.Enters, Divide.together, declared.entered.Entered.Entered, declared.entered.Fresh.Fresh}
+use Rattle.volap_cell.specs.link_descent.specs.{Descend.Enters, Divide.together, declared.entered.Entered.Entered, declared.entered.Fresh.Fresh}
 use Rattle.mapping_table.specs.declared.place.Where.TheVariants as where_is
-use Rattle.shard_store.specs.{Gate.root_entry, declared.gate.Gate.Gate}
+use Rattle.volap_cell.specs.shard_store.specs.{Gate.root_entry, declared.gate.Gate.Gate}
 use Rattle.list_words.specs.Counts.{Each}
 use Rattle.list_words.proofs.{Each.{each-map, each-left}, Truth.on_bool}
-use Rattle.tree_shape.specs.{Laws.{OtherLaw, CollectOtherLaw, InLaw, GateLaw, BlockLaw, RootLaw, RootBehindLaw, RootBehindFitsLaw}, Shape.{Table, TreeCells, Shape}, Trees.{IsTree, IsBelow, BlockFits, BehindFits, cells_behind}}
+use Rattle.volap_cell.specs.tree_shape.specs.{Laws.{OtherLaw, CollectOtherLaw, InLaw, GateLaw, BlockLaw, RootLaw, RootBehindLaw, RootBehindFitsLaw}, Shape.{Table, TreeCells, Shape}, Trees.{IsTree, IsBelow, BlockFits, BehindFits, cells_behind}}
 use Rattle.volap_cell.specs.{Cells.{CellValue, BlockCell, GateCell, block_in, has_block, way_in, way_to_tree, active_in}, Errands.{RowWay, is_filled, row_way}, Ghost.Ghost, Growing.table_of, Invariant.InvWith, NewBlocks.HaveNew, Setting.Setting, Steps.{IsHere, Makes}, Stocking.{cells_at, IsWhole}, TreeKinds.{AreFilled, DoesEnterTree, HasRow, Leads, IsTailIf, IsTailOf, blocks_of, on_way}, Values.{ActorValue, ErrandValue, OfRow}, View.{View, view}, World.{World, Change, change, change_if, held}, declared.errand.RowErrand.RowErrand, declared.errand.Way.TheVariants.Carried, declared.kind.Kind.TheVariants.EnterTree}
 use Rattle.volap_cell.proofs.Views.Shown.{held-leads}
 use Rattle.core_tree.specs.Descent.{AreForNew, AreLast, CanEnterTree, CanComeIn, CameIn, blocks_if, two_if}

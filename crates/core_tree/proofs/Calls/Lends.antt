@@ -3,10 +3,10 @@
 use Rattle.std.proofs.{Common.{◌≡◌, ◌≢◌, ℕ, zero, suc, ◌<◌, ◌≤◌, Bool, true, cond, eqb, List, [], ◌∷◌, map, Option, Some, slice_get, refl, sym, ap, ◌∙◌, subst, inl, inr, arith}, lemmas.Bool.ne_eqb}
 use Rattle.std.specs.Option.{option_map_or}
 use Rattle.dc_node.specs.{Block.entries_in, declared.entry.Entry.Entry}
-use Rattle.shard_store.specs.Gate.{root_entry}
+use Rattle.volap_cell.specs.shard_store.specs.Gate.{root_entry}
 use Rattle.list_words.specs.Counts.{Each, times}
 use Rattle.list_words.proofs.{Times.same_is, Truth.eqb-self}
-use Rattle.tree_shape.specs.{Laws.{ChildLaw, RootLaw}, Shape.{Node, Shape, Table, TreeCells, nodes, node_of, gate_node}, Trees.{EntryOk, IsTree, IsBehind, cells_behind}, Walks.IsTail}
+use Rattle.volap_cell.specs.tree_shape.specs.{Laws.{ChildLaw, RootLaw}, Shape.{Node, Shape, Table, TreeCells, nodes, node_of, gate_node}, Trees.{EntryOk, IsTree, IsBehind, cells_behind}, Walks.IsTail}
 use Rattle.volap_cell.specs.{Cells.{CellValue, FreeCell, LedgerCell, StockCell, RegistryCell, ImageCell, DeskCell, MapCell, GateCell, BlockCell, block_in, has_block}, Errands.{row_way, place_of}, Ghost.{Ghost, InPurse, InTree}, Growing.table_of, Invariant.InvWith, Setting.Setting, Stocking.{cells_at, IsWhole}, TreeKinds.{AreBehind, most_behind}, View.{View, view}, World.{World, Change, MustKeep, held}}
 use Rattle.volap_cell.proofs.Actors.{row-at}
 use Rattle.core_tree.proofs.Rows.Carriers.{carries, carried-way}

@@ -1,10 +1,10 @@
 -- New blocks in the cells of spares that a step used.
 use Rattle.std.proofs.{Common.{◌≡◌, ◌≢◌, ℕ, Bool, true, cond, eqb, List, [], ◌∷◌, ◌++◌, length, refl, sym, ap, ◌∙◌, subst, ◌⊎◌, inl, inr, arith}, lemmas.Bool.{eqb-true, ne_eqb}}
 use Rattle.cell_stock.specs.declared.purse.Spare.{Spare}
-use Rattle.link_descent.specs.declared.entered.Fresh.{Fresh}
+use Rattle.volap_cell.specs.link_descent.specs.declared.entered.Fresh.{Fresh}
 use Rattle.list_words.specs.Counts.{Each}
 use Rattle.list_words.proofs.{Each.{each-map, each-both}, Truth.on_bool}
-use Rattle.tree_shape.specs.Steps.{AreApart}
+use Rattle.volap_cell.specs.tree_shape.specs.Steps.{AreApart}
 use Rattle.volap_cell.specs.{Cells.{CellValue, BlockCell, has_block}, TreeKinds.AreFilled, World.{Change, put}}
 use Rattle.volap_cell.proofs.Views.Frames.{AreAt, first}
 use Rattle.core_tree.proofs.Stocks.Spares.{AreDistinct}

@@ -3,10 +3,10 @@ use Rattle.std.proofs.{Common.{◌≡◌, ◌≢◌, ℕ, ◌+◌, ◌<◌, ◌�
 use Rattle.std.specs.Prelude.{if◌then◌else◌, ◌==◌}
 use Rattle.cell_stock.specs.declared.purse.Spare.{Spare}
 use Rattle.row_ledger.specs.{Past.{Query, query_at}, Shards.{frontier, is_live}}
-use Rattle.shard_store.specs.declared.gate.Phase.TheVariants.{Open, Frozen}
+use Rattle.volap_cell.specs.shard_store.specs.declared.gate.Phase.TheVariants.{Open, Frozen}
 use Rattle.list_words.specs.Counts.{Each, same as one_same, times}
 use Rattle.list_words.proofs.{Times.{same_is, same_not}, Truth.{on_bool, eqb-self}}
-use Rattle.tree_shape.specs.{Laws.{OtherLaw, CollectOtherLaw}, Shape.Shape}
+use Rattle.volap_cell.specs.tree_shape.specs.{Laws.{OtherLaw, CollectOtherLaw}, Shape.Shape}
 use Rattle.volap_cell.specs.{Cells.{CellValue, has_block}, Errands.{RowWay, Outside, AtBlock, ReadPart, way_of, row_way, place_of}, Falls.{left, far, gates_of_errand, gates_of_task, gates_of_way}, Ghost.Ghost, Growing.table_of, Invariant.InvWith, Kinds.Does, Querying.{IsCounted, must_hold}, Setting.{Setting, actor_count}, Steps.{HasSight, IsKept}, Stocking.{cells_at, IsWhole}, Sums.sum_below, TreeKinds.{HasRow, on_way}, Turning.{is_inside, inside_of}, Values.{ActorValue, ErrandValue}, View.{View, view}, World.{World, Change, put, after, Agrees}, declared.errand.RowErrand.RowErrand, declared.errand.Way.Way, declared.kind.Kind.Kind}
 use Rattle.volap_cell.specs.declared.errand.Way.TheVariants as way_is
 use Rattle.volap_cell.proofs.{OneEvent.Desks.must_hold-placed, OneEvent.Known.{AreOlder, older-rows}, OneEvent.Older.insert-within, OneEvent.Reads.{pinned-whole, readers-take, reading-counts}, Persons.has-taken, Sums.sum-changed, Views.Frames.{AreAt, actor-at, actor-off}, Views.Seen.renewed, Views.Trees.by_enter_tree}

@@ -4,10 +4,10 @@ use Rattle.std.specs.Option.{option_map_or}
 use Rattle.dim_hierarchy.specs.{Dimension.Dimension, declared.row.Row.Row}
 use Rattle.dc_node.specs.{Block.{is_full, entries_in}, declared.block.Block.Block}
 use Rattle.cell_stock.specs.{Stock.PurseValue, declared.purse.Spare.Spare}
-use Rattle.link_descent.specs.{Descend.StepsDown, declared.entered.Entered.Entered, declared.entered.Fresh.Fresh}
+use Rattle.volap_cell.specs.link_descent.specs.{Descend.StepsDown, declared.entered.Entered.Entered, declared.entered.Fresh.Fresh}
 use Rattle.list_words.specs.Counts.{Each}
 use Rattle.list_words.proofs.{Each.{each-map, each-both, each-append, each-left, each-right}, Truth.{on_bool, eqb-self}}
-use Rattle.tree_shape.specs.{Laws.{OtherLaw, CollectOtherLaw, DownLaw, ChildLaw, BehindLaw}, Shape.{Shape, nodes}, Steps.{AreSpares, IsIdle, AfterStep}, Trees.{IsBelow, HasBehind, IsBehind, cells_behind}}
+use Rattle.volap_cell.specs.tree_shape.specs.{Laws.{OtherLaw, CollectOtherLaw, DownLaw, ChildLaw, BehindLaw}, Shape.{Shape, nodes}, Steps.{AreSpares, IsIdle, AfterStep}, Trees.{IsBelow, HasBehind, IsBehind, cells_behind}}
 use Rattle.volap_cell.specs.{Cells.{CellValue, FreeCell, LedgerCell, StockCell, RegistryCell, ImageCell, DeskCell, MapCell, GateCell, BlockCell, block_in, has_block, gate_shard, phase_of, tag_of}, Errands.{RowWay, AtBlock, row_way, place_of, block_at, IsCarried}, Ghost.{Ghost, NotOfStock, AGate, InTree, InPurse}, Growing.table_of, Invariant.InvWith, Setting.Setting, Steps.{IsKept, Keeps}, Stocking.{cells_at, spent_of}, TreeKinds.{DoesDown, AreBehind, IsTailIf, blocks_of, most_behind}, Values.ActorValue, View.{View, view}, World.{World, Change, put, after, Agrees}, declared.errand.Way.TheVariants.Carried, declared.kind.Kind.TheVariants.Down}
 use Rattle.volap_cell.proofs.{Actors.{row-at, row-taken, row-reads}, Cells.Numbers.tag-rest, Views.Frames.{AreAt, first, second}, Views.Seen.{beside, actor_beside}, Views.Touches.{IsBlank, tail-read, turned-block, others-blocks}}
 use Rattle.core_tree.proofs.{Calls.NewBlocks.{AreIn, count-filled, filled-each, filled-made, filled-off, filled-at, in-fresh, in-spares, put-skip, put-behind, seen-stays}, Queries.TreeSteps.{TreeStep, IsOwn, tree-kept, with_shape, of_steps}, Rows.Carriers.{Carries, carries, purse-owned}, Stocks.Spares.{AreDistinct, spares-distinct, spares-left, distinct-right}, Stocks.Stamps.{KeepsStamp, StampsWith, Restamps, cuts-stamps, divides-once, restamps}}

@@ -5,10 +5,10 @@ use Rattle.dim_hierarchy.specs.{Dimension.Dimension, Rows.IsRowOf, declared.row.
 use Rattle.measure_agg.specs.Aggregate.{Aggregate}
 use Rattle.mapping_table.specs.declared.place.Where.TheVariants as where_is
 use Rattle.row_ledger.specs.declared.event.Event.{Event}
-use Rattle.shard_store.specs.{Gate.{Enqueues, IsQueueOf}, declared.gate.Gate.Gate, declared.gate.Phase.TheVariants.Frozen, declared.queue.Queue.Queue}
+use Rattle.volap_cell.specs.shard_store.specs.{Gate.{Enqueues, IsQueueOf}, declared.gate.Gate.Gate, declared.gate.Phase.TheVariants.Frozen, declared.queue.Queue.Queue}
 use Rattle.list_words.specs.Counts.{Each, times, same as same_number}
 use Rattle.list_words.proofs.{Each.each-append, Times.{times-append, same_is, same_not, all-times, distinct-times}, Truth.on_bool}
-use Rattle.tree_shape.specs.Shape.{numbers}
+use Rattle.volap_cell.specs.tree_shape.specs.Shape.{numbers}
 use Rattle.volap_cell.specs.{AdminKinds.IsBuiltOf, Cells.{CellValue, GateCell, MapCell, queue_in, tag_of}, Errands.{AtBlock, AtRest, Outside, RowWay, place_of, row_way, way_of}, Falls.{far, gates_of_errand, gates_of_task, gates_of_way, left}, Ghost.Ghost, Growing.Queueing, Invariant.InvWith, Setting.{Setting, actor_count}, Steps.{IsHere, IsKept, Keeps, Makes}, Sums.sum_below, TreeKinds.{DoesEnterQueue, HasRow, on_way, MayQueue}, Turning.{inside_of, is_inside}, Values.{ActorValue, ErrandValue}, View.{View, view}, Working.{Working, frozen_in}, World.{Agrees, Change, World, after, change, held}, declared.errand.RowErrand.RowErrand, declared.errand.Way.Way, declared.errand.Way.TheVariants.{Before, Carried, Placed, Put}, declared.kind.Kind.TheVariants.EnterQueue}
 use Rattle.volap_cell.proofs.{Histories.Standings.live-on, OneEvent.Known.{AreOlder, older-rows}, OneEvent.Older.insert-within, Sums.sum-kept, Views.Fields.IsNewAt, Views.Frames.{actor-at, actor-off}, Views.Gates.gate-behind, Views.Seen.renewed, Views.Shown.held-leads, Views.Trees.{by_enter_queue, view-enter_queue}}
 use Rattle.core_tree.specs.DueAtGates.{CanEnterQueue}

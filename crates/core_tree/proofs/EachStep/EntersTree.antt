@@ -3,12 +3,12 @@ use Rattle.std.proofs.{Common.{◌≡◌, ◌≢◌, ℕ, ◌+◌, ◌*◌, ◌�
 use Rattle.dim_hierarchy.specs.{Dimension.Dimension, Rows.IsRowOf, declared.row.Row.Row}
 use Rattle.dc_node.specs.{Block.is_full, declared.block.Block.Block}
 use Rattle.cell_stock.specs.{Stock.PurseValue, declared.purse.Spare.Spare}
-use Rattle.link_descent.specs.{Descend.Enters, declared.entered.Entered.Entered, declared.entered.Fresh.Fresh}
+use Rattle.volap_cell.specs.link_descent.specs.{Descend.Enters, declared.entered.Entered.Entered, declared.entered.Fresh.Fresh}
 use Rattle.mapping_table.specs.declared.place.Where.TheVariants as where_is
-use Rattle.shard_store.specs.{Gate.root_entry, declared.gate.Gate.Gate}
+use Rattle.volap_cell.specs.shard_store.specs.{Gate.root_entry, declared.gate.Gate.Gate}
 use Rattle.list_words.specs.Counts.{Each}
 use Rattle.list_words.proofs.{Each.{each-map, each-both, each-append, each-left, each-right}, Truth.on_bool}
-use Rattle.tree_shape.specs.{Laws.{OtherLaw, CollectOtherLaw, InLaw, RootLaw, RootBehindLaw}, Shape.{Shape, Table, TreeCells, nodes}, Steps.{AreSpares, IsIdle, AfterStep}, Trees.{IsTree, IsBelow, HasBehind, IsBehind, cells_behind}}
+use Rattle.volap_cell.specs.tree_shape.specs.{Laws.{OtherLaw, CollectOtherLaw, InLaw, RootLaw, RootBehindLaw}, Shape.{Shape, Table, TreeCells, nodes}, Steps.{AreSpares, IsIdle, AfterStep}, Trees.{IsTree, IsBelow, HasBehind, IsBehind, cells_behind}}
 use Rattle.volap_cell.specs.{Cells.{CellValue, OfStock, MapOf, GateCell, BlockCell, block_in, has_block, phase_of, tag_of, way_in, way_to_tree, active_in}, Errands.{RowWay, Outside, AtBlock, place_of, row_way, block_at, IsCarried}, Ghost.{Ghost, NotOfStock, AGate, InTree, InPurse}, Growing.table_of, Invariant.InvWith, Setting.Setting, Steps.{IsKept, Keeps}, Stocking.{cells_at, IsWhole, spent_of}, TreeKinds.{DoesEnterTree, IsTailIf, blocks_of}, Values.ActorValue, View.{View, view}, World.{World, Change, put, after, Agrees}, declared.kind.Kind.TheVariants.EnterTree}
 use Rattle.volap_cell.proofs.{Cells.Numbers.tag-rest, Cells.Spares.enter-blank, Views.Fields.IsNewAt, Views.Frames.{AreAt, Same, third}, Views.Gates.gate-behind, Views.Seen.{CellSeen, beside, renewed}, Views.Shown.held-leads, Views.Touches.{IsBlank, all-read, tail-read, turned-block, others-blocks}, Views.Trees.{by_enter_tree, view-enter_tree}}
 use Rattle.core_tree.proofs.{Calls.NewBlocks.{AreIn, count-filled, filled-each, filled-made, filled-off, filled-at, in-fresh, in-spares, put-skip, put-behind, seen-stays}, EachStep.ComesIn.{ComesIn, comes-in-kept, still-has}, EachStep.Descents.{tail-blocks, tail-numbers, each-numbers, tail-made, append-cancel, gate-phase}, Queries.TreeSteps.{IsOwn, of_steps}, Rows.Arrivals.{Arrives, arrives, filled-outside}, Rows.Carriers.purse-owned, Stocks.Counts.tree-placed, Stocks.Spares.{AreDistinct, apart-sym, spares-distinct, spares-left, distinct-right}, Stocks.Stamps.{KeepsStamp, Restamps, StampsWith, cuts-stamps, divides-once, restamps}}

@@ -4,7 +4,7 @@ use Rattle.volap_cell.specs.{Cells.{active_in, CellValue, gate_shard, GateCell},
 use Rattle.std.proofs.{Common.{◌≡◌, ℕ, ◌+◌, ◌<◌, ◌≤◌, ◌==◌, eqb, if◌then◌else◌, List, [], ◌∷◌, Option, Some, refl, sym, ap, ◌∙◌, subst, inl, inr, arith, IsSome, true, false}, lemmas.Bool.{eqb-true, eqb-false, ne_eqb}, lemmas.List.Elements.All-weaker}
 use Rattle.dim_hierarchy.specs.{Dimension.Dimension, declared.row.Row.Row}
 use Rattle.query_router.specs.declared.part.PartState.TheVariants as state
-use Rattle.shard_store.specs.declared.gate.Gate.{Gate}
+use Rattle.volap_cell.specs.shard_store.specs.declared.gate.Gate.{Gate}
 use Rattle.list_words.proofs.Truth.{on_bool, eqb-self}
 use Rattle.volap_cell.proofs.{Actors.{row-at, taken-is}, Histories.Standings.live-on, Persons.has-taken, Sums.{sum-changed, sum-some}, Views.Fields.IsNewAt, Views.Frames.{actor-at, actor-off}, Views.Gates.gate-first, Views.Seen.renewed, Views.Trees.{by_leave_tree, view-leave_tree}}
 use Rattle.core_tree.specs.DueAtGates.{CanLeaveTree}

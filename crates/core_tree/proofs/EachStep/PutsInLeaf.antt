@@ -2,7 +2,7 @@
 use Rattle.std.proofs.{Common.{◌≡◌, ℕ, ◌+◌, ◌<◌, ◌≤◌, true, false, eqb, List, [], ◌∷◌, ◌++◌, Some, refl, sym, ap, ◌∙◌, subst, inl, arith, append-nil}, lemmas.Bool.{eqb-true, eqb-false}}
 use Rattle.dim_hierarchy.specs.{Dimension.Dimension, declared.row.Row.Row}
 use Rattle.dc_node.specs.{Block.{is_leaf, is_full, rows_in, with_rows}, declared.block.Block.Block, declared.block.Body.TheVariants.Rows}
-use Rattle.tree_shape.specs.{Laws.{OtherLaw, PutLaw, CollectOtherLaw}, Shape.Shape, Steps.AfterPut}
+use Rattle.volap_cell.specs.tree_shape.specs.{Laws.{OtherLaw, PutLaw, CollectOtherLaw}, Shape.Shape, Steps.AfterPut}
 use Rattle.list_words.proofs.Truth.{on_bool}
 use Rattle.volap_cell.specs.{Cells.{CellValue, BlockCell, block_in, has_block}, Errands.{AtBlock, row_way, way_of, place_of}, Ghost.Ghost, Growing.table_of, Invariant.InvWith, Setting.Setting, Steps.{IsHere, IsKept, Keeps, Makes}, Stocking.cells_at, TreeKinds.{DoesPutInLeaf, HasRow, on_way}, Values.{ActorValue, ErrandValue}, View.{View, view}, World.{World, Change, change, held, put, after, Agrees}, declared.errand.RowErrand.RowErrand, declared.errand.Way.TheVariants.{Carried, Put}, declared.kind.Kind.TheVariants.PutInLeaf}
 use Rattle.volap_cell.proofs.{Actors.{row-at, row-taken, row-reads}, Views.Frames.{first, elsewhere}, Views.Seen.actor_beside, Views.Touches.turned-block}

@@ -6,16 +6,16 @@ use Rattle.dim_hierarchy.specs.{Compiled.compiled, Dimension.Dimension, declared
 use Rattle.measure_agg.specs.{Aggregate.{Aggregate, agg}, Joining.join}
 use Rattle.measure_agg.proofs.AggLaws.{join_empty_left}
 use Rattle.dc_node.specs.{declared.entry.Entry.Entry, declared.todo.Item.Item}
-use Rattle.link_descent.specs.{GateRead.{queue_part, tree_part, root_items}, Visit.is_noted}
+use Rattle.volap_cell.specs.link_descent.specs.{GateRead.{queue_part, tree_part, root_items}, Visit.is_noted}
 use Rattle.mapping_table.specs.declared.place.Where.{Where}
 use Rattle.mapping_table.specs.declared.place.Where.TheVariants as where_is
 use Rattle.row_ledger.specs.{Shards.is_live, declared.event.Event.Event}
 use Rattle.row_ledger.proofs.Descent.{live-apart}
-use Rattle.shard_store.specs.{Gate.{IsQueueOf, root_entry}, declared.gate.Gate.Gate, declared.gate.Phase.TheVariants.Gone, declared.queue.Queue.Queue}
+use Rattle.volap_cell.specs.shard_store.specs.{Gate.{IsQueueOf, root_entry}, declared.gate.Gate.Gate, declared.gate.Phase.TheVariants.Gone, declared.queue.Queue.Queue}
 use Rattle.list_words.specs.Counts.{Each, same, times}
 use Rattle.list_words.proofs.Truth.{on_bool, eqb-self}
-use Rattle.tree_shape.specs.{Laws.{BeginLaw, RootLaw, OtherLaw}, Queries.{IsUnfinished, fits, items_of}, Shape.{Node, TreeCells, nodes, Shape, numbers}, Steps.{AfterBegin, LeavesTree}, Trees.IsTree, Walks.{Noted, pending}}
-use Rattle.tree_shape.proofs.Whole.Assembled.{node-gate}
+use Rattle.volap_cell.specs.tree_shape.specs.{Laws.{BeginLaw, RootLaw, OtherLaw}, Queries.{IsUnfinished, fits, items_of}, Shape.{Node, TreeCells, nodes, Shape, numbers}, Steps.{AfterBegin, LeavesTree}, Trees.IsTree, Walks.{Noted, pending}}
+use Rattle.volap_cell.specs.tree_shape.proofs.Whole.Assembled.{node-gate}
 use Rattle.volap_cell.specs.{Cells.{CellValue, MapCell, pins_in, queue_in, tag_of, way_in, way_to_tree, where_in}, Errands.{ReadPart, taken_by, taken_of, read_of, want_of}, Falls.{far, per_query, queries_of_task, blocks_left}, Ghost.{Ghost, InTree, NotOfStock}, Growing.{IsUnder, table_of}, Invariant.InvWith, Querying.{IsCounted, IsReading, IsWalk, IsInTreeOf, pins_of, one_pin, must_hold}, Setting.{Setting, actor_count, cell_count, site_in}, Steps.{IsKept, Keeps}, Stocking.{cells_at, IsWhole, NoneExpects}, Sums.sum_below, TreeKinds.{DoesGateRead, one_if_some, pin_if}, Values.{ActorValue, ReadingValue, TaskValue, Unread, Read}, View.{View, view}, World.{World, Change, after, Agrees}, declared.kind.Kind.TheVariants.GateRead}
 use Rattle.volap_cell.proofs.{Actors.read-is, Cells.Numbers.at-map, Desks.Queries.{IsQueryPart, query-part}, Persons.has-taken, Sums.sum-changed, Views.Fields.IsNewAt, Views.Frames.{actor-at, actor-off}, Views.Gates.gate-behind, Views.Seen.beside, Views.Touches.turned, Views.Trees.by_gate_read}
 use Rattle.core_tree.proofs.{EachStep.VisitsBlock.waits-noted, Queries.BlocksLeft.{left-is, left-few}, Queries.QuerySteps.{ReadsStep, query-kept}, Queries.Walkers.{home-at, under-home, asked-of}}

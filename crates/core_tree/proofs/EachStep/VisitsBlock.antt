@@ -4,12 +4,12 @@ use Rattle.std.specs.Option.{option_map_or}
 use Rattle.dim_hierarchy.specs.{Compiled.Compiled, Dimension.Dimension, declared.filter.Pick.Pick}
 use Rattle.measure_agg.specs.{Aggregate.{Aggregate, agg}, Joining.join}
 use Rattle.dc_node.specs.{Block.{is_leaf, entries_in, IsBodyOf}, Summary.row_count, declared.block.Block.Block, declared.block.Body.Body, declared.block.Body.TheVariants.{Rows, Entries}, declared.entry.Entry.Entry, declared.todo.Item.Item}
-use Rattle.link_descent.specs.Visit.{is_noted, noted, noted_in, noted_right, counted as block_part}
-use Rattle.shard_store.specs.declared.gate.Phase.TheVariants.{Gone}
+use Rattle.volap_cell.specs.link_descent.specs.Visit.{is_noted, noted, noted_in, noted_right, counted as block_part}
+use Rattle.volap_cell.specs.shard_store.specs.declared.gate.Phase.TheVariants.{Gone}
 use Rattle.list_words.specs.Counts.{Each, same}
 use Rattle.list_words.proofs.{Each.{each-append, each-left, each-right}, Truth.on_bool}
-use Rattle.tree_shape.specs.{Laws.{VisitLaw, GateLaw, BlockLaw}, Queries.{IsUnfinished, NoneWaits, fits}, Shape.{Table, Node, TreeCells, nodes, Shape}, Steps.{IsIdle, AfterVisit}, Trees.IsTree, Walks.pending}
-use Rattle.tree_shape.proofs.{Reading.Noted.{none-above, none-noted}, Whole.Assembled.node-block, Whole.Totals.links-on}
+use Rattle.volap_cell.specs.tree_shape.specs.{Laws.{VisitLaw, GateLaw, BlockLaw}, Queries.{IsUnfinished, NoneWaits, fits}, Shape.{Table, Node, TreeCells, nodes, Shape}, Steps.{IsIdle, AfterVisit}, Trees.IsTree, Walks.pending}
+use Rattle.volap_cell.specs.tree_shape.proofs.{Reading.Noted.{none-above, none-noted}, Whole.Assembled.node-block, Whole.Totals.links-on}
 use Rattle.volap_cell.specs.{Cells.{CellValue, BlockCell, block_in, has_block, pins_in}, Errands.{ReadPart, RowWay, AtBlock, IsCarried, block_at, read_of}, Falls.{far, queries_of_task, blocks_left}, Ghost.{Ghost, InTree, NotOfStock}, Growing.table_of, Invariant.InvWith, Querying.{Pinning, IsCounted, IsReading, IsWalk, pins_of, must_hold}, Setting.{Setting, actor_count, cell_count}, Steps.{IsHere, IsKept, Keeps, Makes}, Stocking.{cells_at, NoneExpects, items_of_read}, Sums.sum_below, TreeKinds.{DoesBlockVisit, with_reading}, Values.{ActorValue, ErrandValue, ReadingValue, Read}, View.{View, view}, World.{World, Change, change, held, after, Agrees}, declared.kind.Kind.TheVariants.BlockVisit}
 use Rattle.volap_cell.proofs.{Actors.{read-is, way-is}, Sums.sum-same, Views.Frames.{actor-at, actor-off, kept-one}, Views.Seen.beside, Views.Trees.by_gate_read}
 use Rattle.core_tree.proofs.{EachStep.Descents.gate-phase, Queries.BlocksLeft.{left-is, left-falls}, Queries.QuerySteps.{ReadsStep, query-kept}, Queries.Walkers.{IsWalker, walker, rows-under, tree-few, counted-few}}

@@ -3,8 +3,8 @@ use Rattle.std.proofs.{Common.{◌≡◌, ◌≢◌, ℕ, zero, suc, ◌+◌, �
 use Rattle.dc_node.specs.{declared.block.Block.Block, declared.todo.Item.Item}
 use Rattle.list_words.specs.Counts.{Each, same, times}
 use Rattle.list_words.proofs.{Times.same_is, Truth.on_bool}
-use Rattle.tree_shape.specs.{Queries.items_of, Shape.{Table, TreeCells, Node, node_of, nodes, Shape}, Trees.IsTree, Walks.{Noted, IsNoted, AreNoted, IsTail, reach, pending}}
-use Rattle.tree_shape.proofs.{Reading.Noted.{noted-cell, reach-walk}, Whole.Assembled.node-block}
+use Rattle.volap_cell.specs.tree_shape.specs.{Queries.items_of, Shape.{Table, TreeCells, Node, node_of, nodes, Shape}, Trees.IsTree, Walks.{Noted, IsNoted, AreNoted, IsTail, reach, pending}}
+use Rattle.volap_cell.specs.tree_shape.proofs.{Reading.Noted.{noted-cell, reach-walk}, Whole.Assembled.node-block}
 use Rattle.volap_cell.specs.{Falls.{chain, noted_at, blocks_left}, Sums.sum_below}
 use Rattle.volap_cell.proofs.{Counting.{length-few, sum-ones}, Sums.{sum-no-more, sum-less}}
 

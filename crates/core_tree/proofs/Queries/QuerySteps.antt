@@ -8,7 +8,7 @@ use Rattle.query_router.specs.{Desk.{is_refused, is_taken, state_is_taken}, decl
 use Rattle.query_router.specs.declared.part.PartState.TheVariants as state
 use Rattle.query_router.specs.declared.part.Want.TheVariants as want
 use Rattle.row_ledger.specs.{Past.{Query, query_at}, declared.event.Event.Event}
-use Rattle.tree_shape.specs.{Queries.NoneWaits, Shape.{Shape, nodes}, Steps.IsSpare}
+use Rattle.volap_cell.specs.tree_shape.specs.{Queries.NoneWaits, Shape.{Shape, nodes}, Steps.IsSpare}
 use Rattle.list_words.proofs.{Each.{each-both, each-append, each-right, each-left}, Truth.{on_bool, eqb-self}}
 use Rattle.volap_cell.specs.{Errands.{ReadPart, Taken, taken_by, taken_of, read_of, want_of, way_in_task}, Falls.{left, far, rows_of_task, rows_of_errand, gates_of_task, gates_of_errand, gates_of_work, gates_of_part, control_of, of_work, job_left, gone_left, one_if_any, rows_of_part, queries_of_task, queries_of_errand, queries_of_work, queries_of_state, blocks_left}, Ghost.Ghost, Growing.Growing, Invariant.InvWith, Kinds.Does, Querying.{Pinning, Querying, IsCounted, IsEndOfPart, IsReading}, Setting.{Setting, actor_count, cell_count}, Steps.{HasSight, IsKept}, Stocking.{cells_at, IsWhole, Stocking, Stamping, NoneExpects, all_spares, all_items, items_of_read, items_of_job}, Sums.sum_below, TreeKinds.with_reading, Values.{ActorValue, ErrandValue, ReadingValue, TaskValue, OfRow, Unread, Read}, View.{View, view}, World.{World, Change, after, Agrees}, declared.kind.Kind.Kind}
 use Rattle.volap_cell.proofs.{Actors.query-read, Desks.Queries.{IsQueryPart, the-part, alone}, OneEvent.Ahead.job-stays, OneEvent.Reads.readers-take, Persons.has-taken, Sums.{sum-same, sum-less}, Views.Commits.view-step, Views.Frames.{Same, actor-at, actor-off, unmoved-one}, Views.Seen.beside, Views.Trees.by_gate_read}

@@ -5,7 +5,7 @@ use Rattle.query_router.specs.declared.part.Part.{Part}
 use Rattle.std.specs.Prelude.{sum_by}
 use Rattle.list_words.specs.Counts.{Each}
 use Rattle.list_words.proofs.Truth.{on_bool, eqb-self}
-use Rattle.tree_shape.specs.{Laws.{OtherLaw, CollectOtherLaw}, Shape.Shape}
+use Rattle.volap_cell.specs.tree_shape.specs.{Laws.{OtherLaw, CollectOtherLaw}, Shape.Shape}
 use Rattle.volap_cell.specs.{Cells.{CellValue, block_in, has_block}, Errands.{RowWay, AtBlock, ReadPart, way_of, taken_of, place_of, row_way, has_passed, is_filled}, Falls.{left, far, rows_of_way, rows_of_task, rows_of_errand, gates_of_way, gates_of_task, gates_of_errand, gates_of_work, gates_of_part, control_of, of_work, job_left, gone_left, one_if_any, rows_of_part}, Ghost.{Ghost, Owner, InTree, InPurse}, Growing.table_of, Invariant.InvWith, Kinds.Does, Setting.{Setting, actor_count, cell_count}, Steps.{HasSight, IsKept}, Stocking.cells_at, Sums.sum_below, TreeKinds.{HasRow, on_way}, Turning.{is_inside, inside_of}, Values.{ActorValue, ErrandValue}, View.{View, view}, World.{World, Change, put, after, Agrees}, declared.errand.RowErrand.RowErrand, declared.errand.Way.Way, declared.errand.Way.TheVariants.{Before, Carried, Placed, Put}, declared.kind.Kind.Kind}
 use Rattle.volap_cell.proofs.{Actors.{row-at, taken-is}, OneEvent.Ahead.job-stays, Promised.reads-taken, Sums.{sum-same, sum-some, sum-less}, Views.Commits.view-after, Views.Frames.{Same, AreAt, holds-still, actor-at, actor-off, unmoved-one}, Views.Seen.{Touched, ActorSeen, nothing, beside, actor_beside, renewed}}
 use Rattle.core_tree.proofs.{Rows.Carriers.{Carries, carries}, Rows.Less.{rows-as-before, any-front}, Rows.Moves.{Moved, Went, TreeMoves, moved-growing, moved-numbering, moved-turning, counts-same, level-kept, moved-stocking, moved-stamping}, Rows.MovesRest.{moved-resting, moved-placing, moved-inserting, moved-querying, moved-working}, Stocks.Spares.moved_owner, Stocks.Stamps.Restamps}

@@ -6,10 +6,10 @@ use Rattle.measure_agg.specs.Aggregate.{Aggregate, agg}
 use Rattle.query_router.specs.{Desk.is_refused, declared.part.Part.Part}
 use Rattle.row_ledger.specs.{Past.{Query, query_at}, Shards.{comes_from, is_live}}
 use Rattle.row_ledger.proofs.Descent.{comes_from-self}
-use Rattle.shard_store.specs.{declared.gate.Phase.Phase, declared.gate.Phase.TheVariants.{Open, Frozen, Gone}}
+use Rattle.volap_cell.specs.shard_store.specs.{declared.gate.Phase.Phase, declared.gate.Phase.TheVariants.{Open, Frozen, Gone}}
 use Rattle.list_words.specs.Counts.{Each, same, times}
 use Rattle.list_words.proofs.Truth.{on_bool}
-use Rattle.tree_shape.specs.{Laws.GateLaw, Queries.{IsUnfinished, fits}, Shape.{nodes, numbers}, Steps.IsAsked, Trees.IsTree}
+use Rattle.volap_cell.specs.tree_shape.specs.{Laws.GateLaw, Queries.{IsUnfinished, fits}, Shape.{nodes, numbers}, Steps.IsAsked, Trees.IsTree}
 use Rattle.volap_cell.specs.{Errands.{ReadPart, taken_by, taken_of, want_of}, Ghost.Ghost, Growing.{IsUnder, table_of}, Invariant.InvWith, Querying.{IsCounted, IsReading, IsWalk, must_hold}, Setting.Setting, Stocking.{cells_at, IsWhole}, Values.{ErrandValue, ReadingValue, Read}, View.{View, view}, World.World}
 use Rattle.volap_cell.proofs.{Actors.read-is, Counting.{length-few, passing, passing-once}, Desks.Queries.{IsQueryPart, query-part}, OneEvent.Known.older-rows, OneEvent.Reads.{readers-take, pinned-whole, taken-kept}}
 

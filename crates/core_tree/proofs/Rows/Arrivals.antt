@@ -5,7 +5,7 @@ use Rattle.std.specs.List.{list_any}
 use Rattle.dim_hierarchy.specs.declared.row.Row.{Row}
 use Rattle.mapping_table.specs.declared.place.Where.TheVariants as where_is
 use Rattle.row_ledger.specs.{Past.{Insert, insert_at}, Shards.{Place, frontier, is_live, is_of}, declared.event.Event.Event}
-use Rattle.shard_store.specs.declared.gate.Phase.TheVariants.{Gone}
+use Rattle.volap_cell.specs.shard_store.specs.declared.gate.Phase.TheVariants.{Gone}
 use Rattle.list_words.proofs.Truth.{on_bool}
 use Rattle.volap_cell.specs.{Desking.is_on_desk, Errands.{Outside, RowWay, has_passed, is_filled, place_of, row_way, way_of}, Ghost.Ghost, ImageKinds.doing, Invariant.InvWith, Placing.{IsLead, IsRouted}, Setting.{Setting, actor_count, site_in}, Telling.IsProgress, TreeKinds.HasRow, Values.{ErrandValue, JobValue, ActorValue, OfRow}, View.{View, row_or, view}, World.World, declared.command.Command.Command, declared.command.Work.Work, declared.errand.RowErrand.RowErrand, declared.errand.Way.Way, declared.role.Role.Role}
 use Rattle.volap_cell.specs.declared.command.Work.TheVariants as work_is

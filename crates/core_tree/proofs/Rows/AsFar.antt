@@ -6,8 +6,8 @@ use Rattle.query_router.specs.{Desk.DeskValue, declared.part.Part.Part, declared
 use Rattle.query_router.specs.declared.part.PartState.TheVariants as state
 use Rattle.row_ledger.specs.declared.event.Event.{Event}
 use Rattle.server_image.specs.Image.{ImageValue}
-use Rattle.shard_store.specs.{declared.gate.Phase.Phase, declared.queue.Queue.Queue}
-use Rattle.tree_shape.specs.Shape.{Shape}
+use Rattle.volap_cell.specs.shard_store.specs.{declared.gate.Phase.Phase, declared.queue.Queue.Queue}
+use Rattle.volap_cell.specs.tree_shape.specs.Shape.{Shape}
 use Rattle.list_words.proofs.Truth.{on_bool}
 use Rattle.volap_cell.specs.{Errands.{AtBlock, RowWay}, Placing.{Inserting, IsOnWay, IsRowPart, NobodyAt, Placing}, Setting.{Setting, actor_count}, Turning.{IsIn, Turning, inside_of}, declared.command.Command.Command}
 use Rattle.volap_cell.proofs.Sums.{sum-same}

@@ -6,7 +6,7 @@ use Rattle.dim_hierarchy.specs.declared.row.Row.{Row}
 use Rattle.row_ledger.specs.Shards.{is_of, Place, frontier}
 use Rattle.list_words.specs.Counts.{Each, times}
 use Rattle.list_words.proofs.Truth.{on_bool, eqb-self}
-use Rattle.tree_shape.specs.Trees.{IsTree}
+use Rattle.volap_cell.specs.tree_shape.specs.Trees.{IsTree}
 use Rattle.volap_cell.specs.{Errands.{RowWay, AtBlock, IsCarried, block_at, has_passed, place_of, way_in_task, way_of}, Ghost.{Ghost, InPurse, InTree, is_in_purse}, Growing.table_of, Invariant.InvWith, Setting.Setting, Stocking.{cells_at, IsWhole}, TreeKinds.HasRow, Turning.IsIn, Values.{ActorValue, ErrandValue, TaskValue, OfRow, Unread, Read}, View.{View, row_at, row_or}, World.MustKeep, declared.errand.RowErrand.RowErrand, declared.errand.Way.Way, declared.errand.Way.TheVariants.{Before, Carried, Put, Placed}}
 use Rattle.volap_cell.proofs.Actors.{row-at}
 use Rattle.core_tree.proofs.Stocks.Spares.{each-cell, owner-purse}

@@ -1,7 +1,7 @@
 -- Rows past their gates whose levels are as before have as much left.
 use Rattle.std.proofs.Common.{◌≡◌, ℕ, ◌+◌, ◌≤◌, List, [], ◌∷◌, ◌++◌, Option, Some, None, refl, ap, arith}
 use Rattle.cell_stock.specs.declared.purse.Spare.{Spare}
-use Rattle.tree_shape.specs.Shape.{Shape}
+use Rattle.volap_cell.specs.tree_shape.specs.Shape.{Shape}
 use Rattle.volap_cell.specs.{Errands.{RowWay, AtBlock, way_of, way_in_task, place_of, row_way}, Falls.{rows_of_way, rows_of_task, rows_of_errand, one_if_any}, Values.{ErrandValue, TaskValue, OfRow, Unread, Read}, declared.errand.Way.Way}
 use Rattle.volap_cell.specs.declared.errand.Way.TheVariants as way
 

@@ -5,10 +5,10 @@ use mathlib.Core.Path.{fun_ext}
 use Rattle.cell_stock.specs.{Stock.cells_of, declared.purse.Spare.Spare}
 use Rattle.dim_hierarchy.specs.declared.row.Row.{Row}
 use Rattle.dc_node.specs.declared.todo.Item.{Item}
-use Rattle.shard_store.specs.{Gate.root_entry, declared.gate.Gate.Gate, declared.gate.Phase.TheVariants.Gone}
+use Rattle.volap_cell.specs.shard_store.specs.{Gate.root_entry, declared.gate.Gate.Gate, declared.gate.Phase.TheVariants.Gone}
 use Rattle.list_words.specs.Counts.{Each, same, times}
 use Rattle.list_words.proofs.{Each.{each-map, each-both, each-here, each-left, each-right, each-among}, Truth.on_bool}
-use Rattle.tree_shape.specs.{Laws.OtherLaw, Queries.{IsUnfinished, NoneWaits}, Shape.{Table, TreeCells, nodes, Shape}, Steps.{IsSpare, AreSpares, AreApart, LeavesTree, AfterOther}, Trees.IsTree}
+use Rattle.volap_cell.specs.tree_shape.specs.{Laws.OtherLaw, Queries.{IsUnfinished, NoneWaits}, Shape.{Table, TreeCells, nodes, Shape}, Steps.{IsSpare, AreSpares, AreApart, LeavesTree, AfterOther}, Trees.IsTree}
 use Rattle.volap_cell.specs.{Errands.{RowWay, RowPlace, Outside, AtBlock, InLeaf, AtRest}, Ghost.{Ghost, Owner, InPurse, InTree, NotOfStock, AGate, is_unused, is_in_purse, is_in_tree, is_in_job}, Growing.{table_of, Growing}, Invariant.InvWith, Numbering.Numbering, Setting.{Setting, actor_count}, Stocking.{cells_at, IsWhole, LeavesStamp, Stocking, Stamping, NoneExpects, all_spares, spent_of, all_items}, Sums.sum_below, Turning.{Turning, IsIn, is_inside, inside_of}, View.View}
 use Rattle.core_tree.proofs.{Rows.Carriers.purse-owned, Stocks.Spares.{spares-each, spares-distinct, spares-from, AreDistinct, each-drop, distinct-drop, distinct-right, spares-left, used-apart, moved_owner, on_used, each-times, times-off, times-cells, in-own, other-purse, other-tree}, Stocks.Stamps.{Restamps, restamped-apart, restamped-each}}
 

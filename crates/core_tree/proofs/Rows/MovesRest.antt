@@ -3,12 +3,12 @@ use Rattle.std.proofs.{Common.{◌≡◌, ◌≢◌, ℕ, ◌+◌, ◌<◌, ◌�
 use Rattle.cell_stock.specs.{Stock.cells_of, declared.purse.Spare.Spare}
 use Rattle.dim_hierarchy.specs.declared.row.Row.{Row}
 use Rattle.dc_node.specs.declared.todo.Item.{Item}
-use Rattle.link_descent.specs.declared.entered.Fresh.{Fresh}
+use Rattle.volap_cell.specs.link_descent.specs.declared.entered.Fresh.{Fresh}
 use Rattle.query_router.specs.{declared.part.Part.Part, declared.part.PartState.PartState}
 use Rattle.query_router.specs.declared.part.PartState.TheVariants as state
 use Rattle.row_ledger.specs.Past.{Query, query_at}
-use Rattle.shard_store.specs.{declared.gate.Gate.Gate, declared.gate.Phase.TheVariants.{Frozen, Gone}}
-use Rattle.tree_shape.specs.{Collecting.IsCollecting, Laws.{OtherLaw, CollectOtherLaw}, Queries.{IsUnfinished, NoneWaits, fits}, Shape.{nodes, Shape, numbers}}
+use Rattle.volap_cell.specs.shard_store.specs.{declared.gate.Gate.Gate, declared.gate.Phase.TheVariants.{Frozen, Gone}}
+use Rattle.volap_cell.specs.tree_shape.specs.{Collecting.IsCollecting, Laws.{OtherLaw, CollectOtherLaw}, Queries.{IsUnfinished, NoneWaits, fits}, Shape.{nodes, Shape, numbers}}
 use Rattle.list_words.specs.Counts.{Each, times}
 use Rattle.list_words.proofs.{Each.{each-map, each-both, each-left}, Truth.{on_bool, eqb-self}}
 use Rattle.volap_cell.specs.{AdminKinds.{spent_in, spent_by}, Errands.{RowWay, ReadPart, has_passed}, Ghost.{Ghost, Owner, NotOfStock, Unused, InPurse, AGate, InTree, InJob, is_in_job}, Growing.{table_of, IsUnder, Resting}, Invariant.InvWith, Placing.{Placing, Inserting, NobodyAt, IsRowPart, IsOnWay}, Querying.{Querying, IsWalk, IsInTreeOf, must_hold, one_pin, pins_of}, Setting.{Setting, actor_count}, Stocking.{cells_at, IsWhole, spent_of, all_items, items_of_read, items_of_job}, Values.{JobValue, CollectingValue, BuildingValue, Collects, Builds}, View.View, Working.{Working, IsFrozenFor, IsCollected, IsBuilding, frozen_in}, declared.job.Frozen.Frozen as FrozenFor}

@@ -9,10 +9,10 @@ use Rattle.query_router.specs.declared.part.PartState.TheVariants as state
 use Rattle.row_ledger.specs.{Bounds.{known, may, published}, Listings.IsBox, Past.{Ack, Insert, acked, insert_at, is_kept, last_of}, Shards.{comes_from, is_live}, declared.event.Event.Event}
 use Rattle.row_ledger.proofs.{Descent.comes_from-self, Fresh.is_kept-open, Growth.KeepsRight-place, Within.{Within, IsBox-within}}
 use Rattle.server_image.specs.{Image.ImageValue, Registry.RegistryValue}
-use Rattle.shard_store.specs.{declared.gate.Phase.Phase, declared.queue.Queue.Queue}
+use Rattle.volap_cell.specs.shard_store.specs.{declared.gate.Phase.Phase, declared.queue.Queue.Queue}
 use Rattle.list_words.specs.Counts.{same, times}
 use Rattle.list_words.proofs.Truth.{on_bool, eqb-self}
-use Rattle.tree_shape.specs.Shape.{Shape, numbers}
+use Rattle.volap_cell.specs.tree_shape.specs.Shape.{Shape, numbers}
 use Rattle.volap_cell.specs.{Errands.{RowWay, RowPlace, has_passed}, Growing.{IsUnder, Resting}, Imaging.{Covering, Fits, Imaging, IsCovered, IsGrowth}, Placing.{Inserting, IsLead, IsOnWay, IsRouted, IsRowPart, NobodyAt, Placing}, Setting.{Setting, site_in}, Telling.Telling, Values.JobValue, declared.command.Command.Command, declared.role.Role.Role}
 use Rattle.volap_cell.proofs.OneEvent.Known.{All-inside, AreOlder, known-acked, published-acked}
 

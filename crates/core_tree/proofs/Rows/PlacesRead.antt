@@ -8,9 +8,9 @@ use Rattle.query_router.specs.declared.part.PartState.TheVariants as state
 use Rattle.row_ledger.specs.{Bounds.may, Past.{Ack, Query, Step, acked, before}, Work.{Reading, Settles}, declared.event.Event.Event}
 use Rattle.row_ledger.proofs.{Answering.All-acked_before, Within.{All-may-within, AllZip-weaker, Settles-within}}
 use Rattle.shard_plan.specs.declared.action.Action.{Action}
-use Rattle.shard_store.specs.{declared.gate.Gate.Gate, declared.gate.Phase.Phase, declared.queue.Queue.Queue}
+use Rattle.volap_cell.specs.shard_store.specs.{declared.gate.Gate.Gate, declared.gate.Phase.Phase, declared.queue.Queue.Queue}
 use Rattle.cell_stock.specs.declared.purse.Spare.{Spare}
-use Rattle.tree_shape.specs.Shape.{Shape}
+use Rattle.volap_cell.specs.tree_shape.specs.Shape.{Shape}
 use Rattle.volap_cell.specs.{Errands.{ReadPart, RowWay, Taken}, Growing.IsUnder, Querying.{HoldsOr, IsCounted, IsEndOfPart, IsInTreeOf, Querying}, Setting.{Setting, site_in}, Values.JobValue, Working.{Balancing, IsPlanned, IsReadLoad, Working}, declared.command.Balance.Balance, declared.command.Command.Command}
 use Rattle.volap_cell.proofs.{OneEvent.Desks.must_hold-placed, OneEvent.Known.{All-inside, AreOlder}, OneEvent.Older.Any-weaker}
 use Rattle.core_tree.proofs.Rows.Places.{placed-within, under-before, under-placed, with_one}

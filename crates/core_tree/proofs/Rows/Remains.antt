@@ -4,7 +4,7 @@ use Rattle.std.proofs.{Common.{◌≡◌, ◌≢◌, ℕ, ◌+◌, ◌<◌, eqb,
 use Rattle.std.specs.Prelude.{sum_by}
 use Rattle.query_router.specs.declared.part.Part.{Part}
 use Rattle.row_ledger.specs.declared.event.Event.{Event}
-use Rattle.tree_shape.specs.Shape.{Shape}
+use Rattle.volap_cell.specs.tree_shape.specs.Shape.{Shape}
 use Rattle.list_words.proofs.Truth.{on_bool}
 use Rattle.volap_cell.specs.{Falls.{control_of, gates_of_errand, gates_of_part, gates_of_work, gone_left, job_left, left, of_work, one_if_any, rows_of_errand, rows_of_part}, Ghost.Ghost, Setting.{Setting, actor_count, cell_count}, Sums.sum_below, Values.ActorValue, View.{View, view}, World.World, declared.command.Command.Command}
 use Rattle.volap_cell.proofs.{OneEvent.Ahead.job-stays, Sums.{sum-changed, sum-same}}

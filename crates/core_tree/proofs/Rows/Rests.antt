@@ -2,9 +2,9 @@
 use Rattle.std.proofs.{Common.{◌≡◌, ◌≢◌, ℕ, false, eqb, Option, Some, refl, sym, ap, ◌∙◌}, lemmas.Bool.{false≢true, eqb-true, eqb-false}}
 use Rattle.cell_stock.specs.declared.purse.Spare.{Spare}
 use Rattle.dim_hierarchy.specs.declared.row.Row.{Row}
-use Rattle.shard_store.specs.declared.gate.Phase.{Phase}
+use Rattle.volap_cell.specs.shard_store.specs.declared.gate.Phase.{Phase}
 use Rattle.std.specs.Prelude.{List}
-use Rattle.tree_shape.specs.Shape.{Shape}
+use Rattle.volap_cell.specs.tree_shape.specs.Shape.{Shape}
 use Rattle.list_words.proofs.Truth.{on_bool}
 use Rattle.volap_cell.specs.{Errands.{AtBlock, AtRest, InLeaf, RowWay}, Setting.{Setting, actor_count}, Sums.sum_below, Turning.{IsIn, Turning, inside_of}}
 use Rattle.core_tree.proofs.Rows.Places.{Passes}

@@ -4,12 +4,12 @@ use Rattle.cell_stock.specs.{Stock.cells_of, declared.purse.Spare.Spare}
 use Rattle.dc_node.specs.Summary.{IsSummaryOf, coords}
 use Rattle.describing_set.specs.Sets.{IsDescSetOf}
 use Rattle.measure_agg.specs.Aggregate.{Aggregate}
-use Rattle.shard_store.specs.declared.gate.Phase.{Phase}
-use Rattle.shard_store.specs.declared.gate.Phase.TheVariants as phase
+use Rattle.volap_cell.specs.shard_store.specs.declared.gate.Phase.{Phase}
+use Rattle.volap_cell.specs.shard_store.specs.declared.gate.Phase.TheVariants as phase
 use Rattle.list_words.specs.Counts.{same}
 use Rattle.list_words.proofs.Truth.{on_bool}
-use Rattle.tree_shape.specs.Laws.{GateLaw}
-use Rattle.tree_shape.proofs.Whole.Sums.{coords-valid}
+use Rattle.volap_cell.specs.tree_shape.specs.Laws.{GateLaw}
+use Rattle.volap_cell.specs.tree_shape.proofs.Whole.Sums.{coords-valid}
 use Rattle.volap_cell.specs.{Errands.{RowPlace, RowWay, Outside, AtBlock, InLeaf, AtRest}, Ghost.{Ghost, InPurse, NotOfStock, is_in_purse}, Growing.table_of, Invariant.InvWith, Setting.{Setting, actor_count, cell_count}, Stocking.{cells_at, IsWhole}, Turning.{is_inside, inside_of}, View.View}
 use Rattle.volap_cell.proofs.{Counting.{length-few, passing, passing-once, sum-keyed}, OneEvent.Older.insert-within}
 use Rattle.core_tree.proofs.Stocks.Spares.{owner-purse}

@@ -4,7 +4,7 @@ use Rattle.std.proofs.{Common.{◌≡◌, ◌≢◌, ℕ, ◌+◌, ◌^◌, ◌<
 use Rattle.cell_stock.specs.{Stock.{AreOut, IsStock, StockValue, cells_of, stamps_of}, declared.purse.Spare.Spare}
 use Rattle.list_words.specs.Counts.{Each, times}
 use Rattle.list_words.proofs.{Each.{each-both, each-map, each-append, each-here}, Times.{times-append, same_is, all-times, distinct-times, each-differs}, Truth.on_bool}
-use Rattle.tree_shape.specs.{Queries.NoneWaits, Shape.nodes, Steps.{AreApart, AreSpares, IsSpare}}
+use Rattle.volap_cell.specs.tree_shape.specs.{Queries.NoneWaits, Shape.nodes, Steps.{AreApart, AreSpares, IsSpare}}
 use Rattle.volap_cell.specs.{Ghost.{AGate, Ghost, InJob, InPurse, InTree, NotOfStock, Owner, Unused, is_in_job, is_in_purse, is_in_tree, is_unused}, Invariant.InvWith, Lineage.Lineage, Numbering.Numbering, Owing.one_if, Setting.{Setting, actor_count, cell_count, first_stock_cell}, Stocking.{IsWhole, LeavesStamp, Stamping, Stocking, all_items, all_spares, cells_at, spent_of}, Values.JobValue, View.{View, view}, Working.{IsFrozenFor, Working, IsBuilding}, World.World, declared.role.Role.TheVariants.Admin}
 use Rattle.volap_cell.proofs.{Cells.Blanks.spent-owner, Cells.Spares.among-cells}
 use Rattle.core_tree.proofs.{Rows.Carriers.purse-owned, Stocks.Spares.{AreDistinct, each-cell, in-own, other-purse, owner-purse, spares-from}}

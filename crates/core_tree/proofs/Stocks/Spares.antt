@@ -3,7 +3,7 @@ use Rattle.std.proofs.{Common.{◌≡◌, ◌≢◌, ℕ, ◌+◌, ◌≤◌, ar
 use Rattle.cell_stock.specs.{Stock.cells_of, declared.purse.Spare.Spare}
 use Rattle.list_words.specs.Counts.{Each, Among, times}
 use Rattle.list_words.proofs.{Each.{each-both, each-append, each-here, each-left, each-right}, Times.{same_is, same_not}, Truth.{on_bool, eqb-self}}
-use Rattle.tree_shape.specs.{Shape.{Shape, Node}, Steps.{IsSpare, AreSpares, AreApart}}
+use Rattle.volap_cell.specs.tree_shape.specs.{Shape.{Shape, Node}, Steps.{IsSpare, AreSpares, AreApart}}
 use Rattle.volap_cell.specs.Ghost.{Owner, NotOfStock, Unused, InPurse, AGate, InTree, InJob, is_in_purse, is_in_tree}
 
 pub apart-sym : (x y : Spare) → AreApart x y → AreApart y x

@@ -4,10 +4,10 @@ use Rattle.std.proofs.{Common.{◌≡◌, ◌≢◌, ◌∙◌, ℕ, ◌⊎◌, 
 use Rattle.cell_stock.specs.{Stock.PurseValue, declared.purse.Spare.Spare}
 use Rattle.dc_node.specs.{declared.block.Block.Block, declared.entry.Entry.Entry}
 use Rattle.dim_hierarchy.specs.Dimension.{Dimension}
-use Rattle.link_descent.specs.{Descend.Cuts, declared.entered.Fresh.Fresh}
+use Rattle.volap_cell.specs.link_descent.specs.{Descend.Cuts, declared.entered.Fresh.Fresh}
 use Rattle.list_words.specs.Counts.{Among, Each}
 use Rattle.list_words.proofs.{Each.each-among, Truth.on_bool}
-use Rattle.tree_shape.specs.Steps.{AreApart}
+use Rattle.volap_cell.specs.tree_shape.specs.Steps.{AreApart}
 use Rattle.volap_cell.specs.Stocking.{LeavesStamp}
 use Rattle.core_tree.proofs.Stocks.Spares.{AreDistinct}
 

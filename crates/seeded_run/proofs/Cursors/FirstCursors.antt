@@ -5,7 +5,7 @@ use Rattle.dim_hierarchy.specs.Dimension.{Dimension}
 use Rattle.row_ledger.specs.declared.settings.Use.{Use}
 use Rattle.script_form.specs.declared.script.Command.{Command}
 use Rattle.script_run.specs.Places.{session_of}
-use Rattle.volap_cell.specs.declared.state.State.{State}
+use Rattle.core_pages.specs.volap_cell.specs.declared.state.State.{State}
 use Rattle.seeded_run.specs.{Core.HasCore, Hands.AreFreeHands, Kept.AreIdle, Machine.{AreFirstCursors, IsFirstAt, IsFirstMoment, streams_open}, Phase.{ClosesLast, IsCoreHeld, MayAllRun, StopsBehindAny, about, held, most_actors, phase_from}, declared.machine.Running.Running}
 use Rattle.seeded_run.proofs.{Holding.LeftAlone.apart, Phases.PhaseRuns.{behind-begins-law, stops-law}}
 

@@ -4,8 +4,8 @@ use Rattle.std.specs.Prelude.{option_map, slice_get}
 use Rattle.script_form.specs.declared.script.Command.{Command}
 use Rattle.script_run.proofs.Whole.{get-some}
 use Rattle.script_run.specs.Places.{session_of}
-use Rattle.volap_cell.specs.{Steps.history_in, Values.actor_of, World.World}
-use Rattle.volap_cell.proofs.Cells.States.{stands}
+use Rattle.core_pages.specs.volap_cell.specs.{Steps.history_in, Values.actor_of, World.World}
+use Rattle.core_pages.specs.volap_cell.proofs.Cells.States.{stands}
 use Rattle.core_due.specs.Due.{does_nothing}
 use Rattle.seeded_run.specs.{Look.rests, Machine.{AloneInOrder, HasBegunTo, IsPhaseKept, WaitsAt, about_in, next_at, phase_of, world_of}, Rests.{PhaseRun, first_open}, declared.hands.FreeHands.FreeHands, declared.machine.Running.Running}
 use Rattle.seeded_run.proofs.{Cursors.Firsts.{first-at, first-fails, first-some, late-not, over_in}, Cursors.Held.{none-past, some-within}, Holding.LeftAlone.{apart, is-idle, same-or-not}, Phases.PhaseRuns.{is-actor, past-over}}

@@ -2,8 +2,8 @@
 use Rattle.std.proofs.{Common.{◌≡◌, ◌∙◌, ◌+◌, ◌<◌, ◌≤◌, ℕ, zero, suc, Bool, true, false, List, [], ◌∷◌, length, get_or, Option, Some, None, refl, sym, ap, arith, nat_lt, cond}, lemmas.List.Recursion.is_count_by}
 use Rattle.std.specs.Prelude.{count_by, slice_get, if◌then◌else◌}
 use Rattle.script_form.specs.declared.script.Command.{Command}
-use Rattle.volap_cell.specs.{Setting.actor_count, Steps.history_in, Sums.sum_below}
-use Rattle.volap_cell.proofs.Sums.{sum-same}
+use Rattle.core_pages.specs.volap_cell.specs.{Setting.actor_count, Steps.history_in, Sums.sum_below}
+use Rattle.core_pages.specs.volap_cell.proofs.Sums.{sum-same}
 use Rattle.core_due.specs.Due.{is_empty}
 use Rattle.seeded_run.specs.{Look.{IsTold, streams_left}, Machine.{IsPhaseKept, about_in, next_at, phase_of, world_of}, Rests.{PhaseRun, rest_of}, declared.machine.Running.Running}
 use Rattle.seeded_run.proofs.Cursors.Cursors.{first-law, last-law}

@@ -8,9 +8,9 @@ use Rattle.row_ledger.specs.declared.class.Class.TheVariants as class_is
 use Rattle.script_form.specs.{declared.script.Command.Command, declared.script.Question.Question}
 use Rattle.script_form.specs.declared.script.Command.TheVariants as script
 use Rattle.script_run.specs.{Phases.closes, Places.{session_of, session_of_call}}
-use Rattle.volap_cell.specs.{Cells.desk_in, Commands.{MayCall, MayCallAs, server_of}, Ghost.Ghost, ImageKinds.IsFree, Invariant.InvWith, Setting.{Setting, desk_cell}, Values.{ActorValue, JobValue, actor_of}, View.view, World.World, declared.actor.Actor.Actor, declared.cell.Cell.Cell, declared.kind.Kind.Kind, declared.role.Role.Role, declared.role.Role.TheVariants.{Admin, Hand, Puller, Session}}
-use Rattle.volap_cell.specs.declared.kind.Kind.TheVariants as kind
-use Rattle.volap_cell.proofs.Cells.States.{of-it, stands}
+use Rattle.core_pages.specs.volap_cell.specs.{Cells.desk_in, Commands.{MayCall, MayCallAs, server_of}, Ghost.Ghost, ImageKinds.IsFree, Invariant.InvWith, Setting.{Setting, desk_cell}, Values.{ActorValue, JobValue, actor_of}, View.view, World.World, declared.actor.Actor.Actor, declared.cell.Cell.Cell, declared.kind.Kind.Kind, declared.role.Role.Role, declared.role.Role.TheVariants.{Admin, Hand, Puller, Session}}
+use Rattle.core_pages.specs.volap_cell.specs.declared.kind.Kind.TheVariants as kind
+use Rattle.core_pages.specs.volap_cell.proofs.Cells.States.{of-it, stands}
 use Rattle.core_due.specs.Due.{desk_of, is_empty_desk}
 use Rattle.core_told.specs.Told.{is_of_part}
 use Rattle.script_roles.specs.Roles.{AreScriptRoles}

@@ -1,7 +1,7 @@
 -- A session at whose server's desk no command stands.
 use Rattle.std.proofs.Common.{ℕ, ◌≡◌, Bool, true, false, Option, Some, None, refl}
 use Rattle.std.specs.Prelude.{if◌then◌else◌, is_none}
-use Rattle.volap_cell.specs.{Cells.desk_in, Setting.{Setting, desk_cell}, World.World, declared.kind.Kind.Kind, declared.role.Role.Role, declared.role.Role.TheVariants.{Admin, Hand, Puller, Session}}
+use Rattle.core_pages.specs.volap_cell.specs.{Cells.desk_in, Setting.{Setting, desk_cell}, World.World, declared.kind.Kind.Kind, declared.role.Role.Role, declared.role.Role.TheVariants.{Admin, Hand, Puller, Session}}
 use Rattle.core_due.specs.Due.{desk_of, kind_at_empty}
 
 -- a session whose server's desk is empty

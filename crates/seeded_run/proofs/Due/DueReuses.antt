@@ -4,9 +4,9 @@ use Rattle.std.specs.{List.list_any, Option.option_map_or, Prelude.{if◌then◌
 use Rattle.core_due.specs.{Due.{balance_kind, desk_of, finish_kind, is_empty, is_empty_desk, job_kind, kind_by_verdict, parts_kind, stage_kind, there_kind, work_kind}, Parts.{due_kind, part_due}, Reuses.{reuse_due, reuse_for}, Wants.{is_block_free, is_drained, meets, wanted_of}, declared.parts.PartDue.PartDue}
 use Rattle.core_due.specs.declared.parts.PartDue.TheVariants as part_is_due
 use Rattle.core_due.proofs.PartKinds.{part-kind}
-use Rattle.core_steps.specs.{Parts.part_kind, Trees.tree_kind, declared.parts.PartStep.PartStep, declared.reuses.ReuseStep.ReuseStep, declared.trees.TreeStep.TreeStep}
-use Rattle.core_steps.specs.declared.parts.PartStep.TheVariants as part
-use Rattle.core_steps.specs.declared.trees.TreeStep.TheVariants as tree
+use Rattle.core_due.specs.core_steps.specs.{Parts.part_kind, Trees.tree_kind, declared.parts.PartStep.PartStep, declared.reuses.ReuseStep.ReuseStep, declared.trees.TreeStep.TreeStep}
+use Rattle.core_due.specs.core_steps.specs.declared.parts.PartStep.TheVariants as part
+use Rattle.core_due.specs.core_steps.specs.declared.trees.TreeStep.TheVariants as tree
 use Rattle.dim_hierarchy.specs.Dimension.{Dimension}
 use Rattle.query_router.specs.{Desk.{DeskValue, is_waiting, verdict_of}, declared.part.Part.Part, declared.part.Verdict.Verdict}
 use Rattle.query_router.specs.declared.part.Verdict.TheVariants as verdict
@@ -14,10 +14,10 @@ use Rattle.row_ledger.specs.declared.event.Event.{Event}
 use Rattle.script_form.specs.declared.script.Command.{Command}
 use Rattle.script_form.specs.declared.script.Command.TheVariants as script
 use Rattle.script_run.specs.Phases.{closes}
-use Rattle.volap_cell.specs.{Commands.settles_next, Ghost.Ghost, Invariant.InvWith, Setting.{Setting, actor_count}, Sights.IsIdle, Steps.history_in, Values.{ActorValue, Builds, Collects, ErrandValue, IsCalled, IsDeclined, IsFrozen, JobValue, StageValue}, View.view, World.World, declared.command.Command.Command as OpenCommand, declared.command.Work.Work, declared.kind.Kind.Kind, declared.role.Role.Role}
-use Rattle.volap_cell.specs.declared.command.Work.TheVariants as work_is
-use Rattle.volap_cell.specs.declared.kind.Kind.TheVariants as kind
-use Rattle.volap_cell.specs.declared.role.Role.TheVariants.{Admin, Hand, Puller, Session}
+use Rattle.core_pages.specs.volap_cell.specs.{Commands.settles_next, Ghost.Ghost, Invariant.InvWith, Setting.{Setting, actor_count}, Sights.IsIdle, Steps.history_in, Values.{ActorValue, Builds, Collects, ErrandValue, IsCalled, IsDeclined, IsFrozen, JobValue, StageValue}, View.view, World.World, declared.command.Command.Command as OpenCommand, declared.command.Work.Work, declared.kind.Kind.Kind, declared.role.Role.Role}
+use Rattle.core_pages.specs.volap_cell.specs.declared.command.Work.TheVariants as work_is
+use Rattle.core_pages.specs.volap_cell.specs.declared.kind.Kind.TheVariants as kind
+use Rattle.core_pages.specs.volap_cell.specs.declared.role.Role.TheVariants.{Admin, Hand, Puller, Session}
 use Rattle.seeded_run.specs.{Can.{can, can_in_order, is_reuse, is_turn_of}, Due.{actor_kind, are_known, command_kind, due, due_by, first_kind, free_kind, is_alone, kind_or, next_kind, purse_kind}, DueSteps.{actor_step, command_step, due_step, free_step, step_due, step_or, step_where}, Laws.{IdleLaw, OrderLaw}, Rests.{PhaseRun, first_open, rest_of}, declared.turn.DueStep.DueStep}
 use Rattle.seeded_run.specs.declared.turn.DueStep.TheVariants as step_is
 use Rattle.seeded_run.proofs.Due.DueSteps.{KeepsPurse, TellsReuse}

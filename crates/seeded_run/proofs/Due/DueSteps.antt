@@ -6,14 +6,14 @@ use Rattle.script_form.specs.declared.script.Command.TheVariants as script
 use Rattle.script_run.specs.Phases.{closes}
 use Rattle.query_router.specs.Desk.{DeskValue}
 use Rattle.dim_hierarchy.specs.Dimension.{Dimension}
-use Rattle.tree_shape.proofs.Reading.Collects.{collect-ends}
-use Rattle.volap_cell.specs.{ImageKinds.doing, Setting.Setting, Steps.{Inv, history_in}, Values.{ActorValue, ErrandValue, JobValue}, World.World, declared.command.Command.Command as OpenCommand, declared.command.Work.Work, declared.kind.Kind.Kind, declared.role.Role.Role}
-use Rattle.volap_cell.specs.declared.kind.Kind.TheVariants as kind
-use Rattle.volap_cell.specs.declared.role.Role.TheVariants as role
+use Rattle.core_pages.specs.tree_shape.proofs.Reading.Collects.{collect-ends}
+use Rattle.core_pages.specs.volap_cell.specs.{ImageKinds.doing, Setting.Setting, Steps.{Inv, history_in}, Values.{ActorValue, ErrandValue, JobValue}, World.World, declared.command.Command.Command as OpenCommand, declared.command.Work.Work, declared.kind.Kind.Kind, declared.role.Role.Role}
+use Rattle.core_pages.specs.volap_cell.specs.declared.kind.Kind.TheVariants as kind
+use Rattle.core_pages.specs.volap_cell.specs.declared.role.Role.TheVariants as role
 use Rattle.core_due.specs.{Due.{desk_of, hand_kind, is_empty, is_empty_desk}, Laws.IsDueAt, Parts.{due_kind, part_due}, Ready.HasSpares, Reuses.reuse_due, Wants.meets, Works.{work_due, work_due_kind}, declared.parts.PartDue.PartDue, declared.works.WorkDue.WorkDue}
 use Rattle.core_due.specs.declared.parts.PartDue.TheVariants.{Tree}
 use Rattle.core_due.proofs.{PartKinds.part-kind, WorkKinds.work-kind}
-use Rattle.core_steps.specs.declared.{reuses.ReuseStep.ReuseStep, trees.TreeStep.TheVariants.GiveBack}
+use Rattle.core_due.specs.core_steps.specs.declared.{reuses.ReuseStep.ReuseStep, trees.TreeStep.TheVariants.GiveBack}
 use Rattle.core_told.specs.Told.{is_of_part}
 use Rattle.seeded_run.specs.{Can.{can, can_step}, Commands.may_begin, Due.{actor_kind, are_known, command_kind, due, due_by, first_kind, free_kind, is_alone, kind_or, next_kind}, DueSteps.{IsOfKind, actor_step, command_step, due_step, free_step, step_due, step_due_by, step_if_free, step_or, step_where}, Rests.{PhaseRun, rest_of}, declared.turn.DueStep.DueStep}
 use Rattle.seeded_run.specs.declared.turn.DueStep.TheVariants.{AtPart, AtWork, Begins, Reuses, Takes}

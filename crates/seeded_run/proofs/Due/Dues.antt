@@ -3,8 +3,8 @@ use Rattle.std.proofs.{Common.{◌≡◌, ℕ, zero, suc, ◌<◌, ◌⊎◌, in
 use Rattle.std.specs.{Option.option_map_or, Prelude.{◌==◌, ◌&&◌, ◌||◌, is_some}}
 use Rattle.mapping_table.specs.declared.place.Where.{Where}
 use Rattle.mapping_table.specs.declared.place.Where.TheVariants as where_is
-use Rattle.volap_cell.specs.{Errands.{IsCarried, RowWay, block_at, way_of}, Setting.actor_count, Values.{ActorValue, TaskValue, OfRow, Unread, Read}, World.World, declared.errand.Way.Way, declared.kind.Kind.Kind}
-use Rattle.volap_cell.specs.declared.errand.Way.TheVariants as way
+use Rattle.core_pages.specs.volap_cell.specs.{Errands.{IsCarried, RowWay, block_at, way_of}, Setting.actor_count, Values.{ActorValue, TaskValue, OfRow, Unread, Read}, World.World, declared.errand.Way.Way, declared.kind.Kind.Kind}
+use Rattle.core_pages.specs.volap_cell.specs.declared.errand.Way.TheVariants as way
 use Rattle.core_due.specs.{Due.{all_below, kind_by, led_to, row_kind, task_kind}, Wants.is_carried_at}
 use Rattle.seeded_run.specs.{Due.{actor_kind, is_alone}, Laws.{FreeLaw, AtPartLaw}}
 

@@ -7,14 +7,14 @@ use Rattle.mapping_table.specs.declared.place.Where.TheVariants as where_is
 use Rattle.query_router.specs.{Desk.waits_for, declared.part.Part.Part}
 use Rattle.script_form.specs.declared.script.Command.{Command}
 use Rattle.script_run.specs.Phases.{closes}
-use Rattle.volap_cell.specs.{Cells.{block_in, desk_in}, Commands.once_shown, Desking.is_on_desk, Ghost.Ghost, Invariant.InvWith, Setting.{Setting, actor_count, desk_cell}, Sights.IsIdle, Values.{ActorValue, ErrandValue, TaskValue, OfRow, Unread, Read}, View.view, World.World, declared.command.Command.Command as OpenCommand, declared.command.Work.Work, declared.errand.Way.Way, declared.kind.Kind.Kind, declared.role.Role.Role}
-use Rattle.volap_cell.specs.declared.command.Work.TheVariants as work_is
-use Rattle.volap_cell.specs.declared.errand.Way.TheVariants as way
-use Rattle.volap_cell.specs.declared.kind.Kind.TheVariants as kind
-use Rattle.volap_cell.specs.declared.role.Role.TheVariants as role
+use Rattle.core_pages.specs.volap_cell.specs.{Cells.{block_in, desk_in}, Commands.once_shown, Desking.is_on_desk, Ghost.Ghost, Invariant.InvWith, Setting.{Setting, actor_count, desk_cell}, Sights.IsIdle, Values.{ActorValue, ErrandValue, TaskValue, OfRow, Unread, Read}, View.view, World.World, declared.command.Command.Command as OpenCommand, declared.command.Work.Work, declared.errand.Way.Way, declared.kind.Kind.Kind, declared.role.Role.Role}
+use Rattle.core_pages.specs.volap_cell.specs.declared.command.Work.TheVariants as work_is
+use Rattle.core_pages.specs.volap_cell.specs.declared.errand.Way.TheVariants as way
+use Rattle.core_pages.specs.volap_cell.specs.declared.kind.Kind.TheVariants as kind
+use Rattle.core_pages.specs.volap_cell.specs.declared.role.Role.TheVariants as role
 use Rattle.seeded_run.proofs.{Due.Dues.all_below-at, Phases.Movers.all-from}
 use Rattle.core_due.specs.{Due.{any_below, carry_kind, desk_of, does_nothing, hand_kind, is_empty, kind_by, led_to, may_enter, placed_kind, read_kind, row_kind, task_kind}, Reuses.reuse_due}
-use Rattle.core_steps.specs.declared.reuses.ReuseStep.{ReuseStep}
+use Rattle.core_due.specs.core_steps.specs.declared.reuses.ReuseStep.{ReuseStep}
 use Rattle.core_told.specs.Told.{is_closing_work, is_of_part, is_plain}
 use Rattle.seeded_run.specs.{Due.{actor_kind, are_known, command_kind, due_by, first_kind, free_kind, is_alone, kind_or, next_kind}, Steps.is_for_part}
 

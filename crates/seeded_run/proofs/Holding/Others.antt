@@ -2,7 +2,7 @@
 use Rattle.std.proofs.{Common.{◌≡◌, ◌∙◌, ℕ, zero, suc, ◌+◌, ◌<◌, ◌≤◌, ◌⊎◌, inl, inr, Bool, true, false, List, [], ◌∷◌, length, get_or, Option, Some, None, refl, sym, ap, subst, arith}, lemmas.Bool.{eq-eqb, ne_eqb}}
 use Rattle.std.specs.Prelude.{◌==◌, ◌&&◌, ◌||◌, if◌then◌else◌, slice_get}
 use Rattle.script_form.specs.declared.script.Command.{Command}
-use Rattle.volap_cell.specs.{Setting.{Setting, actor_count}, State.Has, Sums.sum_below, Values.{ActorValue, actor_of}, World.World, declared.actor.Actor.Actor}
+use Rattle.core_pages.specs.volap_cell.specs.{Setting.{Setting, actor_count}, State.Has, Sums.sum_below, Values.{ActorValue, actor_of}, World.World, declared.actor.Actor.Actor}
 use Rattle.core_due.specs.Due.{all_below, any_below, does_nothing, is_empty}
 use Rattle.seeded_run.specs.{Due.is_alone, Look.{IsTold, alone_by, others_end, rests, streams_left}}
 

@@ -1,18 +1,18 @@
 -- Later moments of a phase, and the moves between them.
 use Rattle.std.proofs.Common.{rules, not, ◌≡◌, ◌≢◌, ◌∙◌, ◌+◌, ◌<◌, inl, inr, ℕ, suc, Bool, true, false, Option, Some, None, List, [], ◌∷◌, ◌++◌, length, get_or, take, slice_get, refl, sym, ap, subst, arith}
-use Rattle.core_image.proofs.Commands.NextAction.{inside, take-more}
+use Rattle.core_pages.specs.core_image.proofs.Commands.NextAction.{inside, take-more}
 use Rattle.std.specs.{Option.option_eq, Prelude.{IfOk, OnErr, Result, Ok, Err}}
 use Rattle.core_due.specs.{Works.work_due_kind, WorksReady.{IsInsteadReady, MayMakeJob}, declared.works.WorkDue.WorkDue}
 use Rattle.core_due.specs.declared.works.WorkDue.TheVariants.{Books, Ends, Jobs, Leaves, Shows, Splits, Takes}
-use Rattle.core_steps.specs.Steps.{IsFurther, IsSame}
-use Rattle.core_steps.specs.declared.books.BookStep.TheVariants as book
-use Rattle.core_steps.specs.declared.jobs.JobStep.TheVariants as job
+use Rattle.core_due.specs.core_steps.specs.Steps.{IsFurther, IsSame}
+use Rattle.core_due.specs.core_steps.specs.declared.books.BookStep.TheVariants as book
+use Rattle.core_due.specs.core_steps.specs.declared.jobs.JobStep.TheVariants as job
 use Rattle.dim_hierarchy.specs.Dimension.{Dimension}
 use Rattle.script_form.specs.declared.script.Command.{Command}
-use Rattle.volap_cell.specs.{Setting.Setting, Values.actor_of, World.World, declared.command.Work.Work, declared.kind.Kind.Kind, declared.state.State.State}
-use Rattle.volap_cell.specs.declared.kind.Kind.TheVariants as kind
-use Rattle.volap_cell.proofs.Cells.States.{stands}
-use Rattle.volap_cell.specs.contracts.kind.KindPartialEq.TheImpl as test_of
+use Rattle.core_pages.specs.volap_cell.specs.{Setting.Setting, Values.actor_of, World.World, declared.command.Work.Work, declared.kind.Kind.Kind, declared.state.State.State}
+use Rattle.core_pages.specs.volap_cell.specs.declared.kind.Kind.TheVariants as kind
+use Rattle.core_pages.specs.volap_cell.proofs.Cells.States.{stands}
+use Rattle.core_pages.specs.volap_cell.specs.contracts.kind.KindPartialEq.TheImpl as test_of
 use Rattle.seeded_run.specs.{ByHand.{AreMoves, CannotMoveAt, HasMoved, HasMovedTo, IsLater, IsOfJob, Moves, MovesTo, StopsAmong, StopsAmongAt, may_find_none}, Commands.beginning, Drives.GivesWay, Due.due, Machine.{BeginsNow, HasTurned, IsDueNow, IsDueStep, IsPhaseKept, TakesTurn, about_in, can_in, next_at, phase_of, world_of}, Rests.PhaseRun, Steps.is_for_part, declared.machine.Running.Running}
 use Rattle.seeded_run.specs.declared.turn.DueStep.TheVariants.{AtWork}
 use Rattle.seeded_run.proofs.{Begun.turned-then, Due.DueBegins.beginning-is, Due.DueSteps.none-due, Goings.{has-command, work-goes, work-now}, Holding.LeftAlone.apart, Phases.Turns.{has-gone-on-with-command, to-begin}, Phases.WholePhases.as-before}

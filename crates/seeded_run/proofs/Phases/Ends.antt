@@ -3,7 +3,7 @@ use Rattle.std.proofs.Common.{◌≡◌, ◌∙◌, ℕ, Bool, true, false, List
 use Rattle.std.specs.{Option.option_map_or, Prelude.slice_get}
 use Rattle.seeded_turns.proofs.Able.{able_place}
 use Rattle.seeded_turns.specs.Drawn.{able}
-use Rattle.volap_cell.specs.{Setting.{Setting, actor_count}, Steps.history_in, World.World}
+use Rattle.core_pages.specs.volap_cell.specs.{Setting.{Setting, actor_count}, Steps.history_in, World.World}
 use Rattle.seeded_run.proofs.{Phases.Movers.can-law, Phases.Progress.due-law}
 use Rattle.core_due.specs.Wants.{meets}
 use Rattle.seeded_run.specs.{Can.can, Progress.{EndLaw, SomeCan, is_done}, Rests.{PhaseRun, rest_of}}

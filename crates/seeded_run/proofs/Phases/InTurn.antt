@@ -1,8 +1,8 @@
 -- Whose turn it is where the commands go one after the other: it is the actor's of the first one that isn't over; and when all are over
 -- it is the turn of whoever uses a cell again.
 use Rattle.std.proofs.{Common.{◌≡◌, ◌≢◌, ◌⊎◌, inl, inr, ℕ, true, Option, Some, None, refl, ap}, lemmas.Bool.eqb-true}
-use Rattle.volap_cell.specs.declared.kind.Kind.{Kind}
-use Rattle.volap_cell.specs.declared.kind.Kind.TheVariants as kind
+use Rattle.core_pages.specs.volap_cell.specs.declared.kind.Kind.{Kind}
+use Rattle.core_pages.specs.volap_cell.specs.declared.kind.Kind.TheVariants as kind
 use Rattle.seeded_run.specs.Can.{is_reuse, is_turn_of}
 
 only-reuse : (k : Kind) → is_reuse (Some k) ≡ true → k ≡ kind.Reuse

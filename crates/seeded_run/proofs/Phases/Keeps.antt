@@ -11,15 +11,15 @@ use Rattle.script_form.specs.declared.script.Command.{Command}
 use Rattle.script_form.specs.declared.script.Command.TheVariants as script
 use Rattle.script_run.proofs.{Begin.begins-none, Between.order-other-law, InPhase.phase_other_law, PlaceFacts.begins_of-other}
 use Rattle.script_run.specs.{Between.IsInOrder, Places.{begins_of, count_of, session_of, session_of_call}, Runs.{ArePulls, HasPulls, Begins, BeginsAt}, Streams.IsInPhase}
-use Rattle.volap_cell.specs.{Commands.{MayNoteEnd, due_pull, once_shown, pulled_once}, Ghost.Ghost, ImageKinds.doing, Invariant.InvWith, Kinds.Does, Setting.Setting, Sights.IsIdle, Steps.{Step, history_in}, Telling.IsProgress, Values.ActorValue, View.view, World.{Change, World}, declared.command.Command.Command as OpenCommand, declared.command.Work.Work}
-use Rattle.volap_cell.specs.declared.command.Work.TheVariants as work_is
-use Rattle.volap_cell.specs.declared.kind.Kind.TheVariants as kind
+use Rattle.core_pages.specs.volap_cell.specs.{Commands.{MayNoteEnd, due_pull, once_shown, pulled_once}, Ghost.Ghost, ImageKinds.doing, Invariant.InvWith, Kinds.Does, Setting.Setting, Sights.IsIdle, Steps.{Step, history_in}, Telling.IsProgress, Values.ActorValue, View.view, World.{Change, World}, declared.command.Command.Command as OpenCommand, declared.command.Work.Work}
+use Rattle.core_pages.specs.volap_cell.specs.declared.command.Work.TheVariants as work_is
+use Rattle.core_pages.specs.volap_cell.specs.declared.kind.Kind.TheVariants as kind
 use Rattle.core_told.proofs.{Pulled.{deed-ends, deed-pulls, deed-right, deed-session, end-pulls-none, end-right, plain-pulled, pull-next, pulled-more, pulled-same, right-if, shown-pulled}, Told.{doing-is, none-some, others-law, reuse-tells, told-law}}
 use Rattle.core_told.specs.Told.{GoesFurther, HasPulled, OfBeginning, OfDeed, OfEnd, OfNothing, OfPage, OfPull, TellsDeed, TellsEnd, TellsNothing, TellsPage, TellsPull, Told, is_closing_work, is_of_part, is_plain}
 use Rattle.seeded_run.proofs.{Holding.LeftAlone.{IsAtCommand, alone-from, alone-parts, apart, at-command, both-parts, closing-off, does-nothing, is-idle, page-closing, plain-open, same-or-not, stuck, true-or, within-of}, Instead.made-as-due, Phases.InTurn.{nobody-else, own-or-over}}
 use Rattle.core_due.specs.Due.{does_nothing}
 use Rattle.seeded_run.specs.{Can.{can, can_step, is_turn_of}, Cursors.HasCursors, Due.{due, is_alone}, Instead.in_place_of, Kept.{IsTurn, KeepsOtherLaw}, Rests.{PhaseRun, first_open_behind, first_open, is_over_behind, rest_of, stream_of}, Running.{AreAtOwn, AreOthersIdle, IsRunning, RunsBehind, behind, opened_in}, Steps.is_for_part}
-use Rattle.volap_cell.proofs.{OneEvent.Noted.end-begins-none, Views.Frames.actor-at}
+use Rattle.core_pages.specs.volap_cell.proofs.{OneEvent.Noted.end-begins-none, Views.Frames.actor-at}
 
 -- Events that neither begin nor end a command.
 

@@ -9,12 +9,12 @@ use Rattle.row_ledger.specs.{Past.Query, Shards.{comes_from, ids_made}, declared
 use Rattle.row_ledger.proofs.Descent.{comes_from-self}
 use Rattle.list_words.specs.Counts.{same, times}
 use Rattle.list_words.proofs.{Times.{same_is, same_not}, Truth.on_bool}
-use Rattle.volap_cell.specs.{Desking.{AreLinesApart, AreUnrelated, IsQueryPart, IsQueryState}, Errands.{ReadPart, place_of, row_way, taken_by, taken_of, want_of}, Falls.{left, far, farthest, count_events, is_split_or_move, of_work, gates_of_work, gates_of_way, gates_of_task, gates_of_errand, gates_of_state, gates_of_part, one_if_any, rows_of_way, rows_of_task, rows_of_errand, rows_of_part, per_gate, per_query, blocks_left, queries_of_work, queries_of_task, queries_of_errand, queries_of_state}, Ghost.{Ghost, InTree, NotOfStock, is_in_purse}, Growing.table_of, Invariant.InvWith, Querying.IsWalk, Setting.{Setting, actor_count, cell_count}, Stocking.cells_at, Sums.sum_below, Values.{ErrandValue, TaskValue, OfRow, Unread, Read, ReadingValue}, View.{View, view}, World.World, declared.command.Command.Command, declared.command.Work.Work, declared.errand.RowErrand.RowErrand, declared.errand.Way.Way}
-use Rattle.volap_cell.specs.declared.command.Work.TheVariants as work_is
-use Rattle.volap_cell.specs.declared.errand.Way.TheVariants as way
-use Rattle.volap_cell.proofs.{Actors.{read-is, way-is}, Counting.length-few, Desks.Facts.on-desk, Desks.Queries.query-part, OneEvent.Reads.{pinned-whole, readers-take}}
-use Rattle.core_image.proofs.{Images.KnownMade.known-made, Lessens.Fars.far-most}
-use Rattle.core_tree.proofs.Queries.BlocksLeft.{left-is, left-few}
+use Rattle.core_pages.specs.volap_cell.specs.{Desking.{AreLinesApart, AreUnrelated, IsQueryPart, IsQueryState}, Errands.{ReadPart, place_of, row_way, taken_by, taken_of, want_of}, Falls.{left, far, farthest, count_events, is_split_or_move, of_work, gates_of_work, gates_of_way, gates_of_task, gates_of_errand, gates_of_state, gates_of_part, one_if_any, rows_of_way, rows_of_task, rows_of_errand, rows_of_part, per_gate, per_query, blocks_left, queries_of_work, queries_of_task, queries_of_errand, queries_of_state}, Ghost.{Ghost, InTree, NotOfStock, is_in_purse}, Growing.table_of, Invariant.InvWith, Querying.IsWalk, Setting.{Setting, actor_count, cell_count}, Stocking.cells_at, Sums.sum_below, Values.{ErrandValue, TaskValue, OfRow, Unread, Read, ReadingValue}, View.{View, view}, World.World, declared.command.Command.Command, declared.command.Work.Work, declared.errand.RowErrand.RowErrand, declared.errand.Way.Way}
+use Rattle.core_pages.specs.volap_cell.specs.declared.command.Work.TheVariants as work_is
+use Rattle.core_pages.specs.volap_cell.specs.declared.errand.Way.TheVariants as way
+use Rattle.core_pages.specs.volap_cell.proofs.{Actors.{read-is, way-is}, Counting.length-few, Desks.Facts.on-desk, Desks.Queries.query-part, OneEvent.Reads.{pinned-whole, readers-take}}
+use Rattle.core_pages.specs.core_image.proofs.{Images.KnownMade.known-made, Lessens.Fars.far-most}
+use Rattle.core_due.specs.core_tree.proofs.Queries.BlocksLeft.{left-is, left-few}
 use Rattle.seeded_run.specs.{Measure.{LimitsLaw, limits_of, most_events, most_far, most_waiting}, Ranks.IsWithin}
 
 -- Sums.

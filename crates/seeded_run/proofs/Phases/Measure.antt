@@ -5,8 +5,8 @@ use Rattle.row_ledger.specs.{Past.{is_beginning, session_in}, declared.event.Eve
 use Rattle.script_run.specs.Places.{begins_in, begins_of}
 use Rattle.script_run.proofs.PlaceFacts.{begins_of-here, begins_of-other}
 use Rattle.list_words.proofs.Truth.{on_bool}
-use Rattle.volap_cell.specs.{Falls.left, Ghost.Ghost, Setting.{Setting, actor_count}, Steps.{Step, history_in}, World.World, declared.kind.Kind.Kind}
-use Rattle.volap_cell.proofs.Sums.{sum-kept}
+use Rattle.core_pages.specs.volap_cell.specs.{Falls.left, Ghost.Ghost, Setting.{Setting, actor_count}, Steps.{Step, history_in}, World.World, declared.kind.Kind.Kind}
+use Rattle.core_pages.specs.volap_cell.proofs.Sums.{sum-kept}
 use Rattle.seeded_run.proofs.{Phases.Limits.limits-law, Phases.Ranks.{rank-falls, step-falls}, Phases.Waiting.waiting-law}
 use Rattle.seeded_run.specs.{Core.IsCore, Measure.{BeginInTurn, MostLaw, FewerLaw, StepsLeftLaw, limits_of, steps_left}, Ranks.{IsWithin, commands_waiting, with_waiting}, Rests.PhaseRun}
 

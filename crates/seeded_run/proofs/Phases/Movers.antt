@@ -2,14 +2,14 @@
 use Rattle.std.proofs.{Common.{◌≡◌, ◌≢◌, ◌∙◌, ℕ, zero, suc, ◌<◌, ◌≤◌, ◌⊎◌, inl, inr, Bool, true, false, List, [], ◌∷◌, Option, Some, None, refl, sym, ap, subst, arith, not}, lemmas.Bool.{eq-eqb, eqb-true}}
 use Rattle.std.specs.{Option.option_map_or, Prelude.{◌==◌, ◌&&◌, ◌||◌, is_some, option_map, option_and_then, slice_get, if◌then◌else◌}}
 use Rattle.dc_node.specs.{Block.{entries_in, is_leaf}, declared.entry.Entry.Entry}
-use Rattle.tree_shape.proofs.{Down.Deepest.some-law, Whole.Totals.leads-down}
-use Rattle.tree_shape.specs.{Carrying.{AreCarriers, Carriers, IsIdleIf, WantsChild}, Steps.IsIdle, Trees.IsTree}
+use Rattle.core_pages.specs.tree_shape.proofs.{Down.Deepest.some-law, Whole.Totals.leads-down}
+use Rattle.core_pages.specs.tree_shape.specs.{Carrying.{AreCarriers, Carriers, IsIdleIf, WantsChild}, Steps.IsIdle, Trees.IsTree}
 use Rattle.list_words.specs.Counts.{Among}
 use Rattle.script_form.specs.declared.script.Command.{Command}
-use Rattle.volap_cell.proofs.{Cells.Holding.carries, Persons.has-taken, Sums.sum-zero}
-use Rattle.volap_cell.specs.{Cells.{CellValue, FreeCell, LedgerCell, StockCell, RegistryCell, ImageCell, DeskCell, MapCell, GateCell, BlockCell, active_in, block_in, gate_shard, phase_of}, Errands.{AtBlock, AtRest, InLeaf, IsCarried, Outside, RowPlace, RowWay, block_at, place_of, row_way, taken_by, taken_of, way_in_task, way_of}, Ghost.{Ghost, InTree}, Growing.table_of, Invariant.InvWith, Setting.{Setting, actor_count}, Stocking.{IsWhole, cells_at}, Turning.{inside_of, is_inside}, Values.{ActorValue, ErrandValue, TaskValue, OfRow, Unread, Read, JobValue}, View.view, World.World, declared.errand.RowErrand.RowErrand, declared.errand.Way.Way, declared.kind.Kind.Kind}
-use Rattle.volap_cell.specs.declared.errand.Way.TheVariants as way
-use Rattle.volap_cell.specs.declared.kind.Kind.TheVariants as kind
+use Rattle.core_pages.specs.volap_cell.proofs.{Cells.Holding.carries, Persons.has-taken, Sums.sum-zero}
+use Rattle.core_pages.specs.volap_cell.specs.{Cells.{CellValue, FreeCell, LedgerCell, StockCell, RegistryCell, ImageCell, DeskCell, MapCell, GateCell, BlockCell, active_in, block_in, gate_shard, phase_of}, Errands.{AtBlock, AtRest, InLeaf, IsCarried, Outside, RowPlace, RowWay, block_at, place_of, row_way, taken_by, taken_of, way_in_task, way_of}, Ghost.{Ghost, InTree}, Growing.table_of, Invariant.InvWith, Setting.{Setting, actor_count}, Stocking.{IsWhole, cells_at}, Turning.{inside_of, is_inside}, Values.{ActorValue, ErrandValue, TaskValue, OfRow, Unread, Read, JobValue}, View.view, World.World, declared.errand.RowErrand.RowErrand, declared.errand.Way.Way, declared.kind.Kind.Kind}
+use Rattle.core_pages.specs.volap_cell.specs.declared.errand.Way.TheVariants as way
+use Rattle.core_pages.specs.volap_cell.specs.declared.kind.Kind.TheVariants as kind
 use Rattle.core_due.specs.{Due.{all_below, carry_kind, led_to, row_kind, task_kind}, Wants.{child_of, child_wanted, gate_awaited, is_block_free, is_carried_at, is_drained, meets, wanted, wanted_down, wanted_of}}
 use Rattle.seeded_run.specs.{Due.{actor_kind, due_by, is_alone}, Progress.{CanLaw, SomeCan, SomeDue}}
 

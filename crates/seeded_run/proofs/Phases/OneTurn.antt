@@ -1,7 +1,7 @@
 -- Two turns from one moment.
 use Rattle.std.proofs.Common.{◌≡◌, ◌∙◌, ℕ, Bool, Option, Some, sym, subst}
 use Rattle.seeded_turns.specs.Drawn.{Moment}
-use Rattle.volap_cell.specs.{Setting.Setting, World.World}
+use Rattle.core_pages.specs.volap_cell.specs.{Setting.Setting, World.World}
 use Rattle.seeded_run.specs.{Due.due, Phase.IsTurnOf, Rests.PhaseRun}
 
 one-value : {A : Type 0} (o : Option A) (a b : A) → o ≡ Some a → o ≡ Some b → a ≡ b

@@ -3,8 +3,8 @@ use Rattle.std.proofs.{Common.{◌≡◌, ◌≢◌, ◌∙◌, ℕ, ◌⊎◌, 
 use Rattle.std.specs.{Option.option_map_or, Prelude.{◌==◌, ◌&&◌, ◌||◌, is_none, is_some}}
 use Rattle.seeded_turns.proofs.Able.{able_place}
 use Rattle.seeded_turns.specs.Drawn.{able}
-use Rattle.volap_cell.proofs.Sums.{sum-zero}
-use Rattle.volap_cell.specs.{Cells.active_in, Errands.way_of, Ghost.Ghost, Invariant.InvWith, Setting.{Setting, actor_count}, Steps.history_in, Turning.inside_of, Values.ErrandValue, View.view, World.World, declared.kind.Kind.Kind}
+use Rattle.core_pages.specs.volap_cell.proofs.Sums.{sum-zero}
+use Rattle.core_pages.specs.volap_cell.specs.{Cells.active_in, Errands.way_of, Ghost.Ghost, Invariant.InvWith, Setting.{Setting, actor_count}, Steps.history_in, Turning.inside_of, Values.ErrandValue, View.view, World.World, declared.kind.Kind.Kind}
 use Rattle.seeded_run.proofs.{Due.Dues.at-part-law, Phases.Ends.no-actor, Phases.Movers.{all-from, clash, free-or-none, meets-both, no-job, undrained}, Phases.Progress.{due-or-blocked, led-known}}
 use Rattle.core_due.specs.Wants.{is_block_free, is_carried_at, is_drained, meets, wanted}
 use Rattle.seeded_run.specs.{Can.{can, can_in_order, is_turn_of}, Due.{due, due_by}, Progress.{IsOrderedRun, IsScriptRun, OrderEndLaw}, Rests.{PhaseRun, first_open, rest_of}}

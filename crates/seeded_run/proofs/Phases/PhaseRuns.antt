@@ -6,11 +6,11 @@ use Rattle.row_ledger.specs.{Past.{event_at, session_in}, declared.event.Event.E
 use Rattle.script_form.specs.declared.script.Command.{Command}
 use Rattle.script_run.proofs.{Between.{get-behind, none-count, order-start-law, phase-end-law, phase-start-law}, NextCommand.over-now, PhaseEnds.{all-over, first-place, get-first}, PlaceFacts.{begins_of-here, begins_of-other, count_of-append}, Whole.{get-some, places-length}}
 use Rattle.script_run.specs.{Between.AreFirst, Phases.closes, Places.{begins_in, begins_of, count_of, is_over_at, places, session_of}}
-use Rattle.volap_cell.specs.{Errands.taken_of, Ghost.Ghost, Invariant.InvWith, Setting.{Setting, actor_count}, Sights.IsIdle, Steps.history_in, Values.ErrandValue, View.view, World.World, declared.command.Command.Command as OpenCommand, declared.role.Role.TheVariants.Admin}
-use Rattle.volap_cell.specs.declared.kind.Kind.TheVariants as kind
+use Rattle.core_pages.specs.volap_cell.specs.{Errands.taken_of, Ghost.Ghost, Invariant.InvWith, Setting.{Setting, actor_count}, Sights.IsIdle, Steps.history_in, Values.ErrandValue, View.view, World.World, declared.command.Command.Command as OpenCommand, declared.role.Role.TheVariants.Admin}
+use Rattle.core_pages.specs.volap_cell.specs.declared.kind.Kind.TheVariants as kind
 use Rattle.seeded_turns.proofs.Able.{able_place}
 use Rattle.seeded_turns.specs.Drawn.{able}
-use Rattle.core_steps.specs.declared.reuses.ReuseStep.{ReuseStep}
+use Rattle.core_due.specs.core_steps.specs.declared.reuses.ReuseStep.{ReuseStep}
 use Rattle.core_due.proofs.ReusesPrepared.{none-gone}
 use Rattle.core_due.specs.{Due.{does_nothing, is_empty}, Reuses.reuse_due, Wants.meets}
 use Rattle.seeded_run.proofs.{Cursors.Cursors.{cursor-law, other-first, own-first}, Cursors.Firsts.{IsFirst, first-fails, first-none, first-pass, first-some, late-not, over-at, over_in, past-place}, Due.DueReuses.{idle-kind, idle-meets}, Holding.LeftAlone.{alone-from, apart, both-parts, does-nothing, empty-of, is-idle, same-or-not}, Phases.Ends.{end-law, no-actor}, Phases.Orders.order-end-law, Scripts.{role-is, same-command, script-law}}

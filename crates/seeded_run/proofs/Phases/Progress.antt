@@ -6,13 +6,13 @@ use Rattle.query_router.specs.declared.part.Verdict.TheVariants as verdict
 use Rattle.script_form.specs.declared.script.Command.{Command}
 use Rattle.script_form.specs.declared.script.Command.TheVariants as script
 use Rattle.script_run.specs.Phases.{closes}
-use Rattle.volap_cell.proofs.Persons.{has-taken}
-use Rattle.volap_cell.specs.{Commands.once_shown, Desking.{IsTaken, is_on_desk}, Errands.{Taken, taken_by, taken_of}, Ghost.Ghost, Invariant.InvWith, Numbering.IsRoleOf, Setting.{Setting, actor_count}, Steps.history_in, Telling.IsProgress, Values.{ErrandValue, JobValue}, View.view, World.World, declared.command.Command.Command as OpenCommand, declared.command.Work.Work, declared.kind.Kind.Kind, declared.role.Role.Role, declared.role.Role.TheVariants.Session}
-use Rattle.volap_cell.specs.declared.command.Work.TheVariants as work_is
-use Rattle.volap_cell.specs.declared.kind.Kind.TheVariants as kind
-use Rattle.volap_cell.specs.declared.role.Role.TheVariants as role
+use Rattle.core_pages.specs.volap_cell.proofs.Persons.{has-taken}
+use Rattle.core_pages.specs.volap_cell.specs.{Commands.once_shown, Desking.{IsTaken, is_on_desk}, Errands.{Taken, taken_by, taken_of}, Ghost.Ghost, Invariant.InvWith, Numbering.IsRoleOf, Setting.{Setting, actor_count}, Steps.history_in, Telling.IsProgress, Values.{ErrandValue, JobValue}, View.view, World.World, declared.command.Command.Command as OpenCommand, declared.command.Work.Work, declared.kind.Kind.Kind, declared.role.Role.Role, declared.role.Role.TheVariants.Session}
+use Rattle.core_pages.specs.volap_cell.specs.declared.command.Work.TheVariants as work_is
+use Rattle.core_pages.specs.volap_cell.specs.declared.kind.Kind.TheVariants as kind
+use Rattle.core_pages.specs.volap_cell.specs.declared.role.Role.TheVariants as role
 use Rattle.core_due.specs.{Due.{all_below, desk_of, does_nothing, is_empty, kind_at_empty, kind_by_verdict, led_to, page_kind, parts_kind, work_kind}, Reuses.reuse_due}
-use Rattle.core_steps.specs.declared.reuses.ReuseStep.{ReuseStep}
+use Rattle.core_due.specs.core_steps.specs.declared.reuses.ReuseStep.{ReuseStep}
 use Rattle.seeded_run.specs.{Due.{actor_kind, are_known, command_kind, due_by, first_kind, free_kind, is_alone, kind_or, next_kind}, Progress.{DueLaw, IsScriptRun, SomeDue, is_done}}
 use Rattle.seeded_run.proofs.Due.Dues.{at-part-law}
 

@@ -1,6 +1,6 @@
 -- Where the first of four bounded numbers that changes falls, the number that they spell falls.
 use Rattle.std.proofs.{Common.{◌≡◌, ℕ, suc, ◌+◌, ◌*◌, ◌<◌, ◌≤◌, ◌⊎◌, inl, inr, ap, ◌∙◌, arith}, Math.Nat.mul-le-mul_right}
-use Rattle.volap_cell.specs.{Falls.{Left, Falls, control_brought}, Setting.Setting}
+use Rattle.core_pages.specs.volap_cell.specs.{Falls.{Left, Falls, control_brought}, Setting.Setting}
 use Rattle.seeded_run.specs.Ranks.{RankFallsLaw, StepFallsLaw, with_waiting}
 
 -- a higher digit that falls outweighs a lower one below its limit

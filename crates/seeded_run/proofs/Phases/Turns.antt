@@ -2,14 +2,14 @@
 use Rattle.std.proofs.Common.{◌≡◌, ◌≢◌, ◌∙◌, ◌<◌, ◌≤◌, ◌⊎◌, inl, inr, ℕ, suc, Bool, true, false, List, [], ◌∷◌, length, get_or, Option, Some, None, is_none, refl, sym, ap, subst, arith}
 use Rattle.std.specs.{Option.option_map_or, Prelude.slice_get}
 use Rattle.row_ledger.specs.{Past.session_in, declared.event.Event.Event, declared.settings.Use.Use}
-use Rattle.core_steps.specs.Steps.{IsFurther, IsSame}
+use Rattle.core_due.specs.core_steps.specs.Steps.{IsFurther, IsSame}
 use Rattle.row_ledger.specs.declared.event.Event.TheVariants as event
 use Rattle.dim_hierarchy.specs.Dimension.{Dimension}
 use Rattle.script_form.specs.declared.script.Command.{Command}
 use Rattle.script_form.specs.declared.script.Command.TheVariants as script
 use Rattle.script_run.specs.{Places.{begins_of, session_of}, Runs.Begins}
-use Rattle.volap_cell.specs.{Setting.{Setting, actor_count}, State.Stepped, Steps.{Step, history_in}, Values.{ActorValue, actor_of}, World.World, declared.actor.Actor.Actor, declared.cell.Cell.Cell, declared.command.Command.Command as OpenCommand, declared.kind.Kind.Kind, declared.kind.Kind.TheVariants.Note, declared.state.State.State}
-use Rattle.volap_cell.proofs.Cells.States.{is-some, stands}
+use Rattle.core_pages.specs.volap_cell.specs.{Setting.{Setting, actor_count}, State.Stepped, Steps.{Step, history_in}, Values.{ActorValue, actor_of}, World.World, declared.actor.Actor.Actor, declared.cell.Cell.Cell, declared.command.Command.Command as OpenCommand, declared.kind.Kind.Kind, declared.kind.Kind.TheVariants.Note, declared.state.State.State}
+use Rattle.core_pages.specs.volap_cell.proofs.Cells.States.{is-some, stands}
 use Rattle.core_due.specs.{Due.does_nothing, Wants.meets}
 use Rattle.core_told.proofs.Told.{others-law}
 use Rattle.core_told.specs.Told.{is_of_part}

@@ -4,7 +4,7 @@ use Rattle.std.specs.Prelude.{if◌then◌else◌}
 use Rattle.script_form.specs.declared.script.Command.{Command}
 use Rattle.script_run.proofs.Begin.{begins-own}
 use Rattle.script_run.specs.Places.{begins_in}
-use Rattle.volap_cell.specs.{Setting.actor_count, Sums.sum_below}
+use Rattle.core_pages.specs.volap_cell.specs.{Setting.actor_count, Sums.sum_below}
 use Rattle.seeded_run.proofs.Phases.Shrinks.{rest-law}
 use Rattle.seeded_run.specs.{Ranks.WaitingLaw, Rests.rest_of}
 

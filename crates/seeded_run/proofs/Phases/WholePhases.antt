@@ -10,7 +10,7 @@ use Rattle.seeded_turns.proofs.Keeping.{run_keeps, run_map}
 use Rattle.dim_hierarchy.specs.Dimension.{Dimension}
 use Rattle.row_ledger.specs.declared.class.Class.TheVariants as class_is
 use Rattle.script_form.specs.declared.script.Command.TheVariants as script
-use Rattle.volap_cell.specs.{Falls.left, Setting.{Setting, actor_count}, State.IsWorldOf, Steps.history_in, World.World, declared.actor.Actor.Actor, declared.cell.Cell.Cell, declared.state.State.State}
+use Rattle.core_pages.specs.volap_cell.specs.{Falls.left, Setting.{Setting, actor_count}, State.IsWorldOf, Steps.history_in, World.World, declared.actor.Actor.Actor, declared.cell.Cell.Cell, declared.state.State.State}
 use Rattle.seeded_run.specs.{Can.{able_in, can_step}, Core.{HasCore, IsCore}, Kept.{AreAtFirst, AreIdle, HasBegunAll, IsBetween, IsStopped}, Machine.{AloneInOrder, HasComeToRest, WereThrough, HasEndedBehindAny, HasLeftOver, HasRunTo, HasStoppedAt, HasStoppedBehindAny, IsFirstMoment, IsPhaseHeld, IsPhaseKept, IsSamePhase, KnowsOtherHands, RestsAsIs, RunsBehindAny, TakesTurn, about_in, can_in, most_steps, next_at, nothing, phase_of, world_of}, Measure.limits_of, Order.is_order, Phase.{IsKeptTurn, MayAllRun, MayRun, about, held, most_actors, phase_from}, Progress.IsPhaseOf, Ranks.{IsWithin, commands_waiting, with_waiting}, Rests.PhaseRun, Running.IsRunning, Worlds.{setting_in, world_in}, declared.machine.Running.Running}
 use Rattle.seeded_run.proofs.{Cursors.Held.some-within, Holding.LeftAlone.does-nothing, IdleHands.hand-there, Phases.Limits.limits-law, Phases.PhaseRuns.{behind-begins-law, behind-ends-law, phase-begins-law, phase-ends-law, stops-law}, Phases.Ranks.rank-falls, Worlds.{one-setting, only-world}}
 

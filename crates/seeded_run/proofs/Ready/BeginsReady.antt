@@ -3,16 +3,16 @@ use Rattle.std.proofs.{Common.{ℕ, ℤ, ◌≡◌, ◌<◌, true, false, List, 
 use Rattle.std.specs.{List.slice_index_or, Prelude.{⊤, is_none}}
 use Rattle.core_due.specs.Ready.{IsStateOf}
 use Rattle.core_due.proofs.{BooksHeld.hold-ledger, Holding.{CanHoldAll, hold-three, hold-two, prepared}, InStates.may-make}
-use Rattle.core_image.specs.{Asking.CanBeginQuery, NotesDue.{CanBeginInsert, CanNoteAsking, CanNoteCalled, CanNoteRefused, CanNoteUnknown}, Told.{asked_by, begun_by, called_by, refused_by, unknown_by}}
-use Rattle.core_steps.specs.{Begins.{begin_asks, begin_places}, Places.{numbers, one_at, two_at, values_at}, Steps.{IsSame, MayMake}, declared.begins.BeginStep.BeginStep}
-use Rattle.core_steps.specs.declared.begins.BeginStep.TheVariants as begin
+use Rattle.core_pages.specs.core_image.specs.{Asking.CanBeginQuery, NotesDue.{CanBeginInsert, CanNoteAsking, CanNoteCalled, CanNoteRefused, CanNoteUnknown}, Told.{asked_by, begun_by, called_by, refused_by, unknown_by}}
+use Rattle.core_due.specs.core_steps.specs.{Begins.{begin_asks, begin_places}, Places.{numbers, one_at, two_at, values_at}, Steps.{IsSame, MayMake}, declared.begins.BeginStep.BeginStep}
+use Rattle.core_due.specs.core_steps.specs.declared.begins.BeginStep.TheVariants as begin
 use Rattle.dim_hierarchy.specs.{Dimension.Dimension, Filter.{IsFilterNamed, IsFilterOf, picks}, Row.{IsCoordNamed, IsCoordOf}, declared.filter.Pick.Pick, declared.row.Coord.Coord}
 use Rattle.row_ledger.specs.{Classes.class_of, declared.event.Event.Event, declared.settings.Call.Call, declared.settings.Use.Use}
 use Rattle.script_form.specs.{declared.script.Command.Command, declared.script.NewRow.NewRow, declared.script.Question.Question}
 use Rattle.script_form.specs.declared.script.Command.TheVariants as script
 use Rattle.script_run.specs.{Places.session_of, Runs.{Begins, first_unknown}}
-use Rattle.volap_cell.specs.{Cells.{CellValue, DeskOf, ImageOf, TheLedger, TheRegistry, tag_of}, Commands.{MayCall, server_of}, ImageKinds.asks_registry, Numbering.{IsRoleOf, tag_at}, Setting.{Setting, actor_count, desk_cell, image_cell, ledger_cell, registry_cell}, State.IsWorldOf, Steps.history_in, Values.{ActorValue, actor_of}, World.World, declared.role.Role.TheVariants.Session, declared.state.State.State}
-use Rattle.volap_cell.proofs.{Cells.Numbers.{tag-desk, tag-image}, Cells.States.{is-some, of-it, stands}}
+use Rattle.core_pages.specs.volap_cell.specs.{Cells.{CellValue, DeskOf, ImageOf, TheLedger, TheRegistry, tag_of}, Commands.{MayCall, server_of}, ImageKinds.asks_registry, Numbering.{IsRoleOf, tag_at}, Setting.{Setting, actor_count, desk_cell, image_cell, ledger_cell, registry_cell}, State.IsWorldOf, Steps.history_in, Values.{ActorValue, actor_of}, World.World, declared.role.Role.TheVariants.Session, declared.state.State.State}
+use Rattle.core_pages.specs.volap_cell.proofs.{Cells.Numbers.{tag-desk, tag-image}, Cells.States.{is-some, of-it, stands}}
 use Rattle.seeded_run.specs.{Commands.{GoesBy, IsAllowedCall, IsNextAt, IsToBegin, may_be_refused}, Core.{HasCore, IsCore}, Due.are_known}
 use Rattle.seeded_run.proofs.{Due.DueBegins.{IsAtNext, at-next, may-call, no-server, role_for}, States.{same-core, state-of}, Worlds.{one-setting, only-world}}
 

@@ -1,7 +1,7 @@
 -- A gate over a forest of one tree is a tree
 use Rattle.std.proofs.{Common.{◌≡◌, ◌≢◌, ℕ, ◌+◌, ◌≤◌, true, false, eqb, List, [], ◌∷◌, refl, sym, ap, ◌∙◌, arith}, lemmas.Bool.{eqb-true, eqb-false}}
 use Rattle.dc_node.specs.declared.entry.Entry.{Entry}
-use Rattle.shard_store.specs.Gate.{root_entry}
+use Rattle.link_descent.specs.shard_store.specs.Gate.{root_entry}
 use Rattle.list_words.specs.Counts.{same, times, total}
 use Rattle.list_words.proofs.{Times.{same_is, same_not}, Truth.on_bool}
 use Rattle.tree_shape.specs.{Forest.{AfterBuilding, IsForest, IsGateOver, TreeLaw}, Shape.{Node, Shape, Table, TreeCells, node_of, nodes}, Trees.EntryOk}

@@ -3,7 +3,7 @@ use Rattle.std.proofs.{Common.{◌≡◌, ℕ, ◌<◌, true, false, cond, eqb, 
 use Rattle.std.specs.Prelude.{None}
 use Rattle.dim_hierarchy.specs.{Rows.IsRowOf, declared.row.Row.Row}
 use Rattle.dc_node.specs.declared.block.Body.TheVariants.{Rows}
-use Rattle.shard_store.specs.Gate.{root_entry}
+use Rattle.link_descent.specs.shard_store.specs.Gate.{root_entry}
 use Rattle.list_words.specs.Counts.{times}
 use Rattle.list_words.proofs.{Times.{same_is, same_not}, Truth.on_bool}
 use Rattle.tree_shape.specs.{Laws.OpeningLaw, Shape.{Node, Shape, ShapeOk, Table, TreeCells, gate_node, node_of, nodes}, Steps.{AfterOpening, OpensOver}, Trees.{BlockOk, EntryOk}}

@@ -3,7 +3,7 @@ use Rattle.std.proofs.{Common.{◌≡◌, ◌≢◌, ℕ, ◌+◌, ◌-◌, ◌<
 use Rattle.std.specs.Prelude.{None}
 use Rattle.dc_node.specs.{declared.block.Block.Block, declared.block.Body.TheVariants.Entries, declared.entry.Entry.Entry, declared.todo.Item.Item}
 use Rattle.cell_stock.specs.declared.purse.Spare.{Spare}
-use Rattle.shard_store.specs.Gate.{root_entry}
+use Rattle.link_descent.specs.shard_store.specs.Gate.{root_entry}
 use Rattle.list_words.specs.Counts.{Each}
 use Rattle.list_words.proofs.Truth.{on_bool}
 use Rattle.tree_shape.specs.{Queries.{IsUnfinished, fits, items_of}, Shape.{Node, Shape, Table, TreeCells, gate_node, node_of, nodes}, Steps.IsSpare, Trees.{BlockOk, IsTree}, Walks.Noted}

@@ -3,7 +3,7 @@ use Rattle.std.proofs.{Common.{◌≡◌, ◌≢◌, ℕ, ◌+◌, ◌-◌, ◌�
 use Rattle.std.specs.Prelude.{None}
 use Rattle.dc_node.specs.{Block.is_full, Entry.IsWithRow, declared.block.Block.Block, declared.block.Body.TheVariants.Entries, declared.entry.Entry.Entry}
 use Rattle.cell_stock.specs.{Stock.PurseValue, declared.purse.Spare.Spare}
-use Rattle.shard_store.specs.{Gate.root_entry, declared.gate.Gate.Gate}
+use Rattle.link_descent.specs.shard_store.specs.{Gate.root_entry, declared.gate.Gate.Gate}
 use Rattle.link_descent.specs.{Descend.{CutsRoot, IsGroupEntry}, declared.entered.Entered.Entered, declared.entered.Fresh.Fresh}
 use Rattle.list_words.specs.Counts.{Each, times}
 use Rattle.list_words.proofs.{Times.same_is, Truth.on_bool}

@@ -1,7 +1,7 @@
 -- The step in at the gate, from what the call's contract says
 use Rattle.std.proofs.{Common.{◌≡◌, ℕ, ◌+◌, ◌-◌, arith, inl, inr, eqb, map, sym, ap, ◌∙◌, subst}, lemmas.Bool.{eqb-true, eqb-false}}
 use Rattle.cell_stock.specs.Stock.{PurseValue}
-use Rattle.shard_store.specs.{Gate.root_entry, declared.gate.Gate.Gate}
+use Rattle.link_descent.specs.shard_store.specs.{Gate.root_entry, declared.gate.Gate.Gate}
 use Rattle.link_descent.specs.{Descend.{KeepsRoot, Passes, Halves}, declared.entered.Entered.Entered}
 use Rattle.dc_node.specs.declared.entry.Entry.{Entry}
 use Rattle.list_words.specs.Counts.{Each}

@@ -3,7 +3,7 @@ use Rattle.std.proofs.{Common.{◌≡◌, ◌≢◌, ℕ, ◌+◌, ◌-◌, ◌<
 use Rattle.dim_hierarchy.specs.Rows.{IsRowOf}
 use Rattle.dc_node.specs.{Block.is_full, Entry.IsWithRow, declared.block.Block.Block, declared.entry.Entry.Entry}
 use Rattle.cell_stock.specs.declared.purse.Spare.{Spare}
-use Rattle.shard_store.specs.{Gate.root_entry, declared.gate.Gate.Gate}
+use Rattle.link_descent.specs.shard_store.specs.{Gate.root_entry, declared.gate.Gate.Gate}
 use Rattle.link_descent.specs.Divide.{IsHalved}
 use Rattle.tree_shape.specs.{Shape.{Node, Shape, Table, TreeCells, gate_node, nodes}, Steps.{AfterStep, AreSpares, IsIdle, IsSpare}, Trees.{BlockOk, IsTree, TreeOk}}
 use Rattle.tree_shape.proofs.{Cutting.Relations.{Came, SameLinks, come}, Down.Comes.tree-came, Down.Descends.half-parts, Down.Onto.child_in, Down.Rows.query-came, Down.Settles.{after-pass, after-half}, Whole.Assembled.{node-gate, NearTree, block-kept}}

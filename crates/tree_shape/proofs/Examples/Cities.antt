@@ -5,7 +5,7 @@ use Rattle.dim_hierarchy.specs.{Dimension.tree, Filter.{IsPickOf, pick_at}, Tree
 use Rattle.describing_set.specs.Sets.{GrowsBy}
 use Rattle.dc_node.specs.{Entry.IsWithRow, declared.block.Block.Block, declared.todo.Item.Item}
 use Rattle.cell_stock.specs.{Stock.PurseValue, declared.purse.Spare.Spare}
-use Rattle.shard_store.specs.Gate.{IsQueueOf, root_entry}
+use Rattle.link_descent.specs.shard_store.specs.Gate.{IsQueueOf, root_entry}
 use Rattle.link_descent.specs.{Descend.{Cuts, CutsRoot}, GateRead.root_items, Visit.is_noted, declared.entered.Entered.Entered}
 use Rattle.list_words.specs.Counts.{Each, times}
 use Rattle.list_words.proofs.Truth.{on_bool}

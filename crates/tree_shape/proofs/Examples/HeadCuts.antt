@@ -4,7 +4,7 @@ use Rattle.std.specs.List.{range_with_len}
 use Rattle.dim_hierarchy.specs.{Dimension.tree, Filter.{IsPickOf, pick_at}, Tree.{IsConcept, climb, is_under, up, way_up}, declared.row.Row.Row}
 use Rattle.dc_node.specs.{Entry.IsWithRow, declared.block.Block.Block, declared.todo.Item.Item}
 use Rattle.cell_stock.specs.{Stock.PurseValue, declared.purse.Spare.Spare}
-use Rattle.shard_store.specs.{Gate.root_entry, declared.gate.Gate.Gate}
+use Rattle.link_descent.specs.shard_store.specs.{Gate.root_entry, declared.gate.Gate.Gate}
 use Rattle.link_descent.specs.{Descend.{Cuts, CutsRoot}, Divide.IsCutByHead, GateRead.root_items, declared.entered.Entered.Entered}
 use Rattle.list_words.specs.Counts.{Each, times}
 use Rattle.list_words.proofs.{Each.each-append, Truth.on_bool}

@@ -7,7 +7,7 @@ use Rattle.describing_set.specs.{DescSet.IsSetOf, Sets.GrowsBy, declared.set.Des
 use Rattle.hierarchy_split.specs.{Cut.{leasts, lifted}, Order.{AreEqual, least}}
 use Rattle.dc_node.specs.{Block.{is_leaf, is_full, rows_in}, Entry.IsWithRow, declared.block.Block.Block, declared.block.Body.TheVariants.Rows, declared.entry.Entry.Entry, declared.todo.Item.Item}
 use Rattle.cell_stock.specs.{Stock.PurseValue, declared.purse.Spare.Spare}
-use Rattle.shard_store.specs.Gate.{root_entry}
+use Rattle.link_descent.specs.shard_store.specs.Gate.{root_entry}
 use Rattle.link_descent.specs.{Descend.{Enters, Halves}, GateRead.root_items, Visit.{noted_in, noted_right}, declared.entered.Entered.Entered}
 use Rattle.list_words.specs.Counts.{Each, times}
 use Rattle.list_words.proofs.{Each.each-append, Truth.on_bool}

@@ -4,7 +4,7 @@ use Rattle.dim_hierarchy.specs.{Dimension.Dimension, Filter.matches, declared.fi
 use Rattle.measure_agg.specs.{Aggregate.agg, Joining.join}
 use Rattle.describing_set.specs.Filter.{is_inside, overlaps}
 use Rattle.dc_node.specs.{Summary.{IsSummaryOf, joined, aggs}, declared.entry.Entry.Entry}
-use Rattle.shard_store.specs.Gate.{root_entry}
+use Rattle.link_descent.specs.shard_store.specs.Gate.{root_entry}
 use Rattle.link_descent.specs.{GateRead.queue_part, Visit.{matching, taken, noted}}
 use Rattle.list_words.specs.Counts.{Each, times}
 use Rattle.list_words.proofs.{Times.{same_is, same_not, times-append}, Truth.on_bool}

@@ -1,7 +1,7 @@
 -- An administrator reads a tree block by block: each block is read, or reached as before
 use Rattle.std.proofs.{Common.{◌≡◌, ◌≢◌, ℕ, ◌+◌, ◌-◌, ◌≤◌, true, false, cond, eqb, leb, List, [], ◌∷◌, ◌++◌, map, refl, sym, ap, ◌∙◌, subst, arith}, lemmas.Bool.{eqb-true, eqb-false, ne_eqb, eq-eqb, leb-true, leb-false}}
 use Rattle.dc_node.specs.{Block.{rows_in, entries_in}, declared.block.Block.Block, declared.entry.Entry.Entry, declared.todo.Item.Item}
-use Rattle.shard_store.specs.Gate.{root_entry}
+use Rattle.link_descent.specs.shard_store.specs.Gate.{root_entry}
 use Rattle.link_descent.specs.Visit.{noted_right}
 use Rattle.list_words.specs.Counts.{same, times}
 use Rattle.list_words.proofs.{Times.{same_is, same_not, times-append}, Truth.on_bool}

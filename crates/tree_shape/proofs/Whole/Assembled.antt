@@ -8,7 +8,7 @@ use Rattle.list_words.specs.Counts.{Among, Each}
 use Rattle.list_words.proofs.{Each.{each-left, each-right, each-of}, Truth.on_bool}
 use Rattle.tree_shape.specs.{Queries.{NoneWaits, items_of}, Shape.{Node, Shape, Table, TreeCells, gate_node, node_of, nodes}, Steps.{AreApart, AreSpares, IsSpare}, Trees.{BlockOk, IsTree, TreeOk, limit}, Walks.Noted}
 use Rattle.tree_shape.proofs.{Cutting.Relations.{Grew, NoneExpects, all_grown}, Down.Onto.child_in}
-use Rattle.shard_store.specs.Gate.{root_entry}
+use Rattle.link_descent.specs.shard_store.specs.Gate.{root_entry}
 
 -- Nodes.
 

@@ -3,7 +3,7 @@ use Rattle.std.proofs.{Common.{◌≡◌, ◌≢◌, ℕ, ◌+◌, ◌-◌, ◌<
 use Rattle.std.specs.Prelude.{Some, slice_get}
 use Rattle.dim_hierarchy.specs.Dimension.{IsHierarchy}
 use Rattle.dc_node.specs.{Block.{rows_in, entries_in, is_leaf, IsBodyOf}, Summary.row_count, declared.block.Block.Block, declared.block.Body.Body, declared.block.Body.TheVariants.{Rows, Entries}, declared.entry.Entry.Entry}
-use Rattle.shard_store.specs.Gate.{root_entry}
+use Rattle.link_descent.specs.shard_store.specs.Gate.{root_entry}
 use Rattle.link_descent.specs.Divide.{together}
 use Rattle.list_words.specs.Counts.{Each, same, times, total}
 use Rattle.list_words.proofs.{Each.{each-map, all-each, each-mapped}, Times.{same_is, each-times, length-le}, Totals.total-append, Truth.on_bool}

@@ -7,7 +7,7 @@ use Rattle.measure_agg.proofs.AggLaws.{agg-append, agg-IsPermutation}
 use Rattle.describing_set.specs.{DescSet.IsSetOf, Sets.{IsDescSetOf, AreAmong}, declared.set.DescSet.DescSet}
 use Rattle.describing_set.proofs.Laws.{IsSetOf-same}
 use Rattle.dc_node.specs.{Block.{rows_in, entries_in, is_leaf, IsBodyOf}, Summary.{IsSummaryOf, coords, joined, aggs, row_count}, declared.block.Body.Body, declared.block.Body.TheVariants.{Rows, Entries}, declared.entry.Entry.Entry, declared.todo.Item.Item}
-use Rattle.shard_store.specs.Gate.{root_entry}
+use Rattle.link_descent.specs.shard_store.specs.Gate.{root_entry}
 use Rattle.list_words.specs.Counts.{Each, times, total}
 use Rattle.list_words.proofs.{Each.{each-map, all-each, each-left}, Times.{same_is, same-le, each-times, length-le, split-at, times-split}, Truth.on_bool}
 use Rattle.tree_shape.specs.{Queries.IsUnfinished, Shape.{Node, Shape, Table, TreeCells, node_of, nodes, numbers}, Trees.{BlockFits, BlockOk, DirOk, EntryOk, HasBehind, IsBehind, IsBelow, IsTree, cells_behind, lies}, Walks.{AreNoted, IsNoted, IsTail, noted_of, reach}}

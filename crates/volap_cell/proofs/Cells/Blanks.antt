@@ -1,7 +1,7 @@
 -- Which cells are blank: those of an actor's spares, and those that its job has spent on blocks.
 use Rattle.std.proofs.Common.{◌≡◌, ◌≢◌, ℕ, ◌≤◌, cond, List, [], ◌∷◌, Option, Some, None, IsSome, refl, sym, ap, ◌∙◌, subst, arith}
 use Rattle.cell_stock.specs.Stock.{cells_of}
-use Rattle.link_descent.specs.declared.entered.Fresh.{Fresh}
+use Rattle.shard_build.specs.link_descent.specs.declared.entered.Fresh.{Fresh}
 use Rattle.list_words.specs.Counts.{Each, Among}
 use Rattle.list_words.proofs.Times.{among-times}
 use Rattle.volap_cell.specs.{Cells.gate_shard, Ghost.{Ghost, Owner, NotOfStock, Unused, InPurse, AGate, InTree, InJob, is_in_purse, is_in_job}, Invariant.InvWith, Setting.Setting, Stocking.spent_of, TreeKinds.AreFilled, View.view, World.{World, Change}}

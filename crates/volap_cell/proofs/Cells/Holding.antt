@@ -1,7 +1,7 @@
 -- What a step may hold: no other actor must keep a cell that is no block, nor the block at which an actor carries a row itself; and
 -- each cell that isn't free has its place.
 use Rattle.std.proofs.{Common.{◌≡◌, ◌≢◌, ℕ, ◌<◌, true, List, Option, Some, None, length, refl, sym, ap, ◌∙◌, subst, inl, inr}, lemmas.Bool.cases_lt}
-use Rattle.tree_shape.specs.Trees.{IsTree}
+use Rattle.shard_build.specs.tree_shape.specs.Trees.{IsTree}
 use Rattle.volap_cell.specs.{Cells.{FreeCell, has_block}, Errands.{RowWay, RowPlace, Outside, AtBlock, InLeaf, AtRest, IsCarried, block_at, has_passed}, Ghost.{Ghost, InTree}, Growing.table_of, Invariant.InvWith, Setting.Setting, State.IsWorldOf, Stocking.{IsWhole, cells_at}, View.{View, view}, World.{World, MustKeep}, declared.actor.Actor.Actor, declared.cell.Cell.Cell}
 use Rattle.volap_cell.proofs.{Histories.Standings.live-on}
 

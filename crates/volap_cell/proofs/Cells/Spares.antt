@@ -4,8 +4,8 @@ use Rattle.std.proofs.Common.{◌≡◌, ℕ, List, [], ◌∷◌, ◌++◌, Som
 use Rattle.dim_hierarchy.specs.{Dimension.Dimension, declared.row.Row.Row}
 use Rattle.dc_node.specs.declared.block.Block.{Block}
 use Rattle.cell_stock.specs.{Stock.{PurseValue, cells_of}, declared.purse.Spare.Spare}
-use Rattle.link_descent.specs.{Descend.{Enters, IsTakenFrom}, declared.entered.Entered.Entered, declared.entered.Fresh.Fresh}
-use Rattle.shard_store.specs.declared.gate.Gate.{Gate}
+use Rattle.shard_build.specs.link_descent.specs.{Descend.{Enters, IsTakenFrom}, declared.entered.Entered.Entered, declared.entered.Fresh.Fresh}
+use Rattle.shard_build.specs.shard_store.specs.declared.gate.Gate.{Gate}
 use Rattle.list_words.specs.Counts.{Each, Among}
 use Rattle.list_words.proofs.Each.{among-left, among-right, each-left, each-right}
 use Rattle.volap_cell.specs.{AdminKinds.{DoesBuildBlock, DoesFinishSplit, DoesFinishMove, spent_by, spent_in}, Ghost.Ghost, Invariant.InvWith, Setting.Setting, Stocking.spent_of, TreeKinds.{DoesEnterTree, blocks_of}, Values.ActorValue, View.view, World.{World, Change, Agrees}}

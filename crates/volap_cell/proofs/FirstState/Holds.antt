@@ -6,7 +6,7 @@ use Rattle.row_ledger.specs.Past.{Ack, Insert, Query, acked, event_at, insert_at
 use Rattle.list_words.proofs.Elements.{Contains-nil}
 use Rattle.row_ledger.proofs.Growth.{KeepsRight-opened}
 use Rattle.list_words.specs.Counts.{same, times}
-use Rattle.tree_shape.specs.Shape.{numbers}
+use Rattle.shard_build.specs.tree_shape.specs.Shape.{numbers}
 use Rattle.volap_cell.specs.{Desking.{Desking, IsTaken}, Ghost.Ghost, Invariant.InvWith, Numbering.{IsSetting, Numbering}, Opening.IsOpening, Owing.{Owing, is_insert, one_if, owed_by, serves}, Placing.{Inserting, Placing}, Querying.Querying, Reusing.Reusing, Setting.{Setting, actor_count, site_in}, Steps.Inv, Telling.Telling, View.{View, view}, Working.{Balancing, Working}, World.World}
 use Rattle.volap_cell.proofs.{FirstState.Found.tag-is, FirstState.Past.{opening-acked, opening-insert, opening-query, opening-session}, FirstState.Servers.{all-none, covering, imaging, leading, lineage}, FirstState.Shapes.{ghost, none-there}, FirstState.Stock.{growing, pinning, queueing, resting, stamping, stocking, turning}, FirstState.View.{v, command-none, desk-is, job-none, no-command, no-job, no-part, no-read, no-way, not-gone, op-never, opens, owed-none, parts-none, promised-none, pulled, purse-none, quiet, sum-none, taken-none}, Reusing.stands-off}
 

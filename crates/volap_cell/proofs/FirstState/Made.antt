@@ -11,7 +11,7 @@ use Rattle.row_ledger.proofs.Growth.{IsOpeningHistory-nil, IsOpeningHistory-pull
 use Rattle.server_image.specs.Registry.{RegistryValue, IsNewRegistry}
 use Rattle.list_words.specs.Counts.{times}
 use Rattle.list_words.proofs.Times.{same_is, same_not}
-use Rattle.tree_shape.specs.Trees.{leaf_without_rows}
+use Rattle.shard_build.specs.tree_shape.specs.Trees.{leaf_without_rows}
 use Rattle.volap_cell.specs.{Cells.{CellValue, FreeCell, LedgerCell, StockCell, RegistryCell, ImageCell, DeskCell, MapCell, BlockCell, cell_of}, Filling.{Adds, HasPulled, IsActor, IsDesk, IsFirstStock, IsFreeCell, IsGate, IsImage, IsMap, IsOpened, IsRoot, Stands, cell_or, actor_or, world_of, pulls_of}, Numbering.IsSetting, Opening.{IsOpening, IsFirstShard, IsFresh}, Setting.{Setting, actor_count, cell_count, first_stock_cell, map_cell, site_in}, State.{Has, IsWorldOf}, Values.actor_of, World.World, declared.actor.Actor.Actor, declared.cell.Cell.Cell}
 use Rattle.volap_cell.proofs.{FirstState.Holds.opening-inv, FirstState.Servers.{first-boxes, first-spots}}
 

@@ -8,7 +8,7 @@ use Rattle.mapping_table.specs.declared.place.Where.TheVariants as where_is
 use Rattle.query_router.specs.{Desk.is_open, declared.part.Part.Part}
 use Rattle.row_ledger.specs.{Bounds.{known, listing_of, may, published}, Listings.{IsBox, places_of}, Past.{Ack, acked, last_of}, Shards.{Place, place, comes_from, first_places, frontier, ids_made, is_live, is_of}, Workers.is_on}
 use Rattle.server_image.specs.Registry.{RegistryValue, IsFirstSpot}
-use Rattle.shard_store.specs.declared.gate.Phase.TheVariants.{Gone}
+use Rattle.shard_build.specs.shard_store.specs.declared.gate.Phase.TheVariants.{Gone}
 use Rattle.volap_cell.specs.{Ghost.Ghost, Imaging.{Covering, Fits, HasGrown, Imaging, IsCovered, IsGrowth, IsImageOf}, Lineage.{Leading, Lineage}, Numbering.IsSetting, Opening.IsOpening, Setting.{Setting, site_in}, View.View, World.World}
 use Rattle.volap_cell.proofs.{FirstState.Past.{first-is, first-on, first-there, opening-acked, opening-comes, opening-comes_self, opening-frontier, opening-ids, opening-known, opening-published, opening-was}, FirstState.Shapes.{ghost, is-gate}, FirstState.View.{v, gate-shard, growths-none, lists, not-gone, opens, own-map, parts-none, registry-is, spots-are, stock-is, table-is}}
 

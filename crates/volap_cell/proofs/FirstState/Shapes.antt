@@ -2,9 +2,9 @@
 use Rattle.std.proofs.{Common.{◌≡◌, ◌≢◌, ◌∙◌, ℕ, ◌<◌, inl, inr, true, false, [], refl, sym, ap, subst}, lemmas.Bool.{cases_eq, false≢true, true≢false}}
 use Rattle.std.specs.Prelude.{None, IsSome}
 use Rattle.describing_set.specs.{DescSet.IsSetOf, declared.set.DescSet.DescSet}
-use Rattle.shard_store.specs.declared.gate.Gate.{Gate}
-use Rattle.tree_shape.specs.{Shape.{Shape, TreeCells}, Steps.{AfterOpening, OpensOver}, Trees.{IsTree, leaf_without_rows}}
-use Rattle.tree_shape.proofs.{Building.Openings.opening-law, Whole.Totals.leads-root}
+use Rattle.shard_build.specs.shard_store.specs.declared.gate.Gate.{Gate}
+use Rattle.shard_build.specs.tree_shape.specs.{Shape.{Shape, TreeCells}, Steps.{AfterOpening, OpensOver}, Trees.{IsTree, leaf_without_rows}}
+use Rattle.shard_build.specs.tree_shape.proofs.{Building.Openings.opening-law, Whole.Totals.leads-root}
 use Rattle.volap_cell.specs.{Cells.{block_in, way_in, way_to_tree}, Ghost.Ghost, Growing.table_of, Numbering.IsSetting, Opening.IsOpening, Setting.Setting, Stocking.cells_at, View.{View, view}, World.World}
 use Rattle.volap_cell.proofs.{FirstState.Cells.{IsOther, IsSpare, IsGateOf, IsRootOf, block-owned, seek, seek-found, seek-within}, FirstState.Found.{found, owner_at}}
 

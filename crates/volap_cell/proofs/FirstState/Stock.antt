@@ -3,10 +3,10 @@ use Rattle.std.proofs.{Common.{◌≡◌, ◌≢◌, ◌∙◌, ℕ, ◌<◌, �
 use Rattle.std.specs.Prelude.{IsSome, is_some}
 use Rattle.cell_stock.specs.{Stock.{StockValue, cells_of}, declared.purse.Spare.Spare}
 use Rattle.dc_node.specs.{declared.block.Block.Block, declared.entry.Entry.Entry}
-use Rattle.shard_store.specs.Gate.{IsQueueOf}
+use Rattle.shard_build.specs.shard_store.specs.Gate.{IsQueueOf}
 use Rattle.list_words.specs.Counts.{Each, times}
-use Rattle.tree_shape.specs.{Queries.NoneWaits, Shape.{Node, nodes, node_of}, Steps.{AreApart, AreSpares}, Trees.leaf_without_rows}
-use Rattle.tree_shape.proofs.Whole.Assembled.{node-block, node-gate}
+use Rattle.shard_build.specs.tree_shape.specs.{Queries.NoneWaits, Shape.{Node, nodes, node_of}, Steps.{AreApart, AreSpares}, Trees.leaf_without_rows}
+use Rattle.shard_build.specs.tree_shape.proofs.Whole.Assembled.{node-block, node-gate}
 use Rattle.volap_cell.specs.{Cells.{has_block, queue_in, way_in}, Ghost.{Ghost, Owner, NotOfStock, Unused, AGate, InTree, is_unused, is_in_purse, is_in_job}, Growing.{Growing, Queueing, Resting}, Numbering.IsSetting, Opening.IsOpening, Querying.{Pinning, pins_of}, Setting.{Setting, actor_count, cell_count, first_stock_cell}, Stocking.{Stocking, Stamping, IsWhole, LeavesStamp, NoneExpects, all_items, all_spares, cells_at, spent_of}, Turning.{Turning, inside_of}, View.View, World.World}
 use Rattle.volap_cell.proofs.{FirstState.Cells.{IsOther, IsSpare, IsGateOf, IsRootOf}, FirstState.Found.{found, owner-root}, FirstState.Shapes.{ghost, inside-root, is-gate, is-root, none-there, root-at, leaf-at, root-inside, tree-at}, FirstState.View.{v, gate-shard, items-none, job-none, no-read, no-way, not-frozen, not-gone, purse-none, quiet, read-none, spares-none, stock-is, sum-none, way-none}}
 

@@ -7,7 +7,7 @@ use Rattle.mapping_table.specs.declared.place.Where.TheVariants as where_is
 use Rattle.query_router.specs.Desk.{DeskValue}
 use Rattle.row_ledger.specs.{Bounds.listing_of, Kept.IsOpeningHistory, Listings.IsFirstListing, declared.event.Event.Event}
 use Rattle.server_image.specs.Image.{ImageValue}
-use Rattle.shard_store.specs.{declared.gate.Phase.Phase, declared.gate.Phase.TheVariants.{Open, Frozen, Gone}, declared.queue.Queue.Queue}
+use Rattle.shard_build.specs.shard_store.specs.{declared.gate.Phase.Phase, declared.gate.Phase.TheVariants.{Open, Frozen, Gone}, declared.queue.Queue.Queue}
 use Rattle.volap_cell.specs.{Cells.{CellValue, FreeCell, LedgerCell, StockCell, RegistryCell, ImageCell, DeskCell, MapCell, GateCell, BlockCell, OfStock, tag_of, gate_shard, phase_of, active_in, pins_in, queue_in, gone_in, ledger_in, stock_in, registry_in, image_in, desk_in, where_in}, Errands.{Taken, RowWay, ReadPart, taken_of, way_of, read_of}, Numbering.IsSetting, Opening.IsOpening, Setting.{Setting, site_in, map_cell}, Stocking.{all_items, all_spares, items_of_job, items_of_read, spent_of}, Sums.sum_below, Values.JobValue, View.{View, view}, World.World, declared.command.Command.Command}
 use Rattle.volap_cell.proofs.{FirstState.Cells.{IsOther, IsSpare, IsGateOf, IsRootOf, NoGate}, FirstState.Found.{found, stock-tag, tag-is}, FirstState.Past.opening-listing}
 

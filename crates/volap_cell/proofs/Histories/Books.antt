@@ -3,7 +3,7 @@ use Rattle.std.proofs.Common.{◌≡◌, ℕ, ◌<◌, [], ◌∷◌, inl, inr, 
 use Rattle.query_router.specs.Desk.{DeskValue}
 use Rattle.row_ledger.specs.declared.event.Event.{Event}
 use Rattle.server_image.specs.{Image.ImageValue, Registry.RegistryValue}
-use Rattle.shard_store.specs.declared.gate.Gate.{Gate}
+use Rattle.shard_build.specs.shard_store.specs.declared.gate.Gate.{Gate}
 use Rattle.volap_cell.specs.{Cells.{RegistryCell, OfStock, MapOf, DeskOf, ImageOf, TheRegistry, TheLedger, tag_of, desk_in, image_in, pins_in}, ImageKinds.{Pushes, TurnsImage}, Setting.Setting, ShardKinds.TurnsDesk, TreeKinds.TurnsGate, Values.ActorValue, View.{View, view}, World.{World, Change, after}}
 use Rattle.volap_cell.proofs.{Views.Fields.{IsNewAt, IsNew, IsPushed, apart-tags, cell-new, desk-new, image-new, ledger-new, registry-new, pushed-new}, Views.Frames.AreAt, Views.Shown.{AreTagged, held-desk, held-image}}
 

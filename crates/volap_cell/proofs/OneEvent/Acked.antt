@@ -13,8 +13,8 @@ use Rattle.query_router.specs.Desk.{DeskValue}
 use Rattle.row_ledger.specs.{Bounds.{own, passed, listed, known, listing_of, is_listed}, Changes.{AckChanges, ShardsStay}, Past.{Ack, Insert, ack_of, insert_at, acked, last_of}, Shards.is_path, declared.event.Event.Event, declared.event.Event.TheVariants.Acked}
 use Rattle.row_ledger.proofs.{Changes.acked-changes, Growth.KeepsRight-acked}
 use Rattle.server_image.specs.{Image.ImageValue, Registry.RegistryValue}
-use Rattle.shard_store.specs.{declared.gate.Gate.Gate, declared.gate.Phase.Phase, declared.queue.Queue.Queue}
-use Rattle.tree_shape.specs.Shape.{Shape}
+use Rattle.shard_build.specs.shard_store.specs.{declared.gate.Gate.Gate, declared.gate.Phase.Phase, declared.queue.Queue.Queue}
+use Rattle.shard_build.specs.tree_shape.specs.Shape.{Shape}
 use Rattle.list_words.proofs.{Elements.Contains-first, Truth.on_bool}
 use Rattle.volap_cell.specs.{Desking.Desking, Errands.{ReadPart, RowWay, Taken}, Growing.{Growing, Queueing, Resting}, ImageKinds.doing, Imaging.{IsCovered, Fits, Covering, Imaging}, Lineage.Lineage, Placing.{NobodyAt, Placing, Inserting}, Querying.Querying, Setting.{Setting, site_in}, Telling.Telling, Values.JobValue, View.row_at, Working.{Working, Balancing}, declared.command.Command.Command, declared.role.Role.Role}
 use Rattle.volap_cell.specs.declared.command.Work.TheVariants as work_is

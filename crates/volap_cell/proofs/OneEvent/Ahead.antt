@@ -5,7 +5,7 @@ use Rattle.std.specs.Prelude.{if◌then◌else◌, sum_by}
 use Rattle.query_router.specs.declared.part.Part.{Part}
 use Rattle.row_ledger.specs.{Changes.ShardsStay, declared.event.Event.Event, declared.event.Event.TheVariants.{Split, Moved}}
 use Rattle.volap_cell.specs.{Falls.{count_events, departure, far, farthest, gates_of_errand, gates_of_part, gates_of_state, gates_of_task, gates_of_work, is_from, is_split_or_move, job_left, moves_ahead, of_work, per_gate, plenty, splits_under, stage_left, frozen_upto}, Lineage.went_to, Setting.{Setting, cell_count}, Values.{ErrandValue, JobValue, StageValue, IsCalled, IsDeclined, IsFrozen, Collects, Builds}, View.View, declared.command.Command.Command, declared.command.Work.Work}
-use Rattle.shard_store.specs.declared.gate.Phase.{Phase}
+use Rattle.shard_build.specs.shard_store.specs.declared.gate.Phase.{Phase}
 use Rattle.volap_cell.specs.declared.command.Work.TheVariants as work_is
 use Rattle.volap_cell.proofs.OneEvent.Older.{comes-stays}
 

@@ -10,10 +10,10 @@ use Rattle.query_router.specs.declared.part.Want.TheVariants as want
 use Rattle.row_ledger.specs.{Bounds.{must, known}, Changes.ShardsStay, Past.{Ack, Query, insert_at, query_at, before, acked}, declared.event.Event.Event}
 use Rattle.row_ledger.proofs.{Answering.All-acked_before, Positions.before-older}
 use Rattle.list_words.proofs.{Elements.Contains-mapped, Times.same_is}
-use Rattle.shard_store.specs.declared.gate.Gate.{Gate}
+use Rattle.shard_build.specs.shard_store.specs.declared.gate.Gate.{Gate}
 use Rattle.list_words.specs.Counts.{times}
-use Rattle.tree_shape.specs.{Queries.{IsUnfinished, fits}, Shape.{Shape, nodes}, Tables.{AreAlike, IsThereOrCounted}}
-use Rattle.tree_shape.proofs.Whole.Tables.{query-alike}
+use Rattle.shard_build.specs.tree_shape.specs.{Queries.{IsUnfinished, fits}, Shape.{Shape, nodes}, Tables.{AreAlike, IsThereOrCounted}}
+use Rattle.shard_build.specs.tree_shape.proofs.Whole.Tables.{query-alike}
 use Rattle.volap_cell.specs.{Desking.{AreUnrelated, AreLinesApart, IsQueryPart, IsWantOf, Desking}, Errands.{Taken, ReadPart}, Growing.{table_of, IsUnder}, Querying.{must_hold, IsCounted, HoldsOr, IsEndOfPart, IsWalk, IsInTreeOf, IsReading, Querying}, Setting.Setting, Stocking.cells_at, Values.ReadingValue, View.row_at, declared.command.Command.Command, declared.role.Role.Role}
 use Rattle.volap_cell.proofs.{OneEvent.Known.{AreOlder, All-inside, known-acked}, OneEvent.Older.{comes-stays, insert-kept, query-kept, row-older, Any-weaker, query-within}, OneEvent.Rows.{under-grown, under-was}}
 

@@ -6,8 +6,8 @@ use Rattle.describing_set.specs.{DescSet.covers, declared.listing.Spot.Spot}
 use Rattle.row_ledger.specs.{Bounds.{published, listing_of, known, may}, Changes.{ShardsStay, AcksStay, PullsStay, KnowledgeStays}, Listings.{IsBox, places_of}, Past.{Ack, Insert, insert_at, insert_in, acked, last_of}, Shards.comes_from, declared.event.Event.Event}
 use Rattle.row_ledger.proofs.{Answering.{All-published, All-known}, Older.acked-older}
 use Rattle.server_image.specs.{Image.ImageValue, Registry.RegistryValue, declared.image.Growth.Growth}
-use Rattle.shard_store.specs.declared.queue.Queue.{Queue}
-use Rattle.tree_shape.specs.Shape.{Shape}
+use Rattle.shard_build.specs.shard_store.specs.declared.queue.Queue.{Queue}
+use Rattle.shard_build.specs.tree_shape.specs.Shape.{Shape}
 use Rattle.volap_cell.specs.{Errands.RowWay, Imaging.{HasGrown, IsGrowth, IsImageOf, IsCovered, Fits, Covering, Imaging}, Placing.Placing, Setting.Setting, View.row_at, declared.command.Command.Command}
 use Rattle.volap_cell.proofs.OneEvent.Older.{live-stays, comes-stays, insert-within, kind-older, row-older, box-older, Any-weaker}
 

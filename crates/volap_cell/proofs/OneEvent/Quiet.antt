@@ -15,10 +15,10 @@ use Rattle.query_router.specs.Desk.{DeskValue}
 use Rattle.row_ledger.specs.{Changes.{is_quiet, AllStays, ShardsStay}, Past.{Query, insert_in, query_at, query_in, is_work_of}, declared.event.Event.Event, declared.event.Event.TheVariants.Moved}
 use Rattle.row_ledger.proofs.Changes.{quiet}
 use Rattle.server_image.specs.{Image.ImageValue, Registry.RegistryValue}
-use Rattle.shard_store.specs.{declared.gate.Gate.Gate, declared.gate.Phase.Phase, declared.queue.Queue.Queue}
+use Rattle.shard_build.specs.shard_store.specs.{declared.gate.Gate.Gate, declared.gate.Phase.Phase, declared.queue.Queue.Queue}
 use Rattle.list_words.specs.Counts.{times}
 use Rattle.list_words.proofs.Truth.{on_bool}
-use Rattle.tree_shape.specs.Shape.{Shape}
+use Rattle.shard_build.specs.tree_shape.specs.Shape.{Shape}
 use Rattle.volap_cell.specs.{Desking.Desking, Errands.{ReadPart, RowWay, Taken}, Ghost.Ghost, Growing.{IsUnder, Growing, Queueing, Resting}, Imaging.{Covering, Imaging}, Invariant.InvWith, Lineage.{Lineage, went_to}, Placing.{NobodyAt, Placing, Inserting}, Querying.{IsInTreeOf, Querying}, Setting.Setting, Stocking.IsWhole, Telling.Telling, Values.JobValue, View.{View, row_at, view}, Working.{Working, Balancing}, World.World, declared.command.Balance.Balance, declared.command.Command.Command, declared.role.Role.Role}
 use Rattle.volap_cell.specs.declared.command.Work.TheVariants as work_is
 use Rattle.volap_cell.proofs.{OneEvent.Desks.{IsReader, desking-grown, querying-grown}, OneEvent.Known.{AreOlder, older-rows, imaging-grown, covering-grown}, OneEvent.Older.{kind-older, row-older, insert-within}, OneEvent.Reads.{ReadersTake, readers-take, pinned-whole, reading-rows-older}, OneEvent.Rows.{under-grown, resting-grown, lineage-grown, placing-grown, inserting-grown}, OneEvent.Told.commands-older, OneEvent.Trees.{past-there, growing-grown, queueing-grown}, OneEvent.Work.{working-grown, balancing-grown}}

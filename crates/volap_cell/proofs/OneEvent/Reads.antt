@@ -6,10 +6,10 @@ use Rattle.dc_node.specs.declared.block.Block.{Block}
 use Rattle.query_router.specs.{Desk.{DeskValue, is_refused, is_taken, state_is_refused, state_is_taken}, declared.part.Part.Part, declared.part.PartState.PartState}
 use Rattle.query_router.specs.declared.part.PartState.TheVariants as state
 use Rattle.row_ledger.specs.{Past.{Query, query_at}, declared.event.Event.Event}
-use Rattle.shard_store.specs.{declared.gate.Gate.Gate, declared.gate.Phase.Phase}
+use Rattle.shard_build.specs.shard_store.specs.{declared.gate.Gate.Gate, declared.gate.Phase.Phase}
 use Rattle.list_words.specs.Counts.{times}
 use Rattle.list_words.proofs.Truth.{eqb-self}
-use Rattle.tree_shape.specs.Shape.{Shape}
+use Rattle.shard_build.specs.tree_shape.specs.Shape.{Shape}
 use Rattle.volap_cell.specs.{Cells.Tag, Desking.Desking, Errands.{ReadPart, Taken, read_in_task, read_of, taken_by, taken_of}, Growing.Growing, Numbering.Numbering, Querying.{IsCounted, IsInTreeOf, Pinning, Querying, one_pin, pins_of}, Setting.{Setting, actor_count}, Stocking.IsWhole, Sums.sum_below, Values.{JobValue, ErrandValue, TaskValue, OfRow, Unread, Read}, View.{row_at, view}, World.World, declared.command.Command.Command, declared.role.Role.Role}
 use Rattle.volap_cell.proofs.{OneEvent.Known.AreOlder, OneEvent.Trees.tree-row-older, Sums.sum-some}
 

@@ -9,8 +9,8 @@ use Rattle.query_router.specs.declared.part.PartState.TheVariants as state
 use Rattle.row_ledger.specs.{Changes.ShardsStay, Past.{Ack, insert_at, acked}, Shards.comes_from, declared.event.Event.Event}
 use Rattle.row_ledger.proofs.Older.{is_child-older, is_path-older}
 use Rattle.server_image.specs.{Image.ImageValue, Registry.RegistryValue}
-use Rattle.shard_store.specs.{declared.gate.Phase.Phase, declared.queue.Queue.Queue}
-use Rattle.tree_shape.specs.Shape.{Shape}
+use Rattle.shard_build.specs.shard_store.specs.{declared.gate.Phase.Phase, declared.queue.Queue.Queue}
+use Rattle.shard_build.specs.tree_shape.specs.Shape.{Shape}
 use Rattle.volap_cell.specs.{Errands.RowWay, Growing.{IsUnder, Resting}, Lineage.{Lineage, went_to}, Placing.{IsRouted, Placing, IsLead, IsRowPart, IsOnWay, Inserting}, Setting.Setting, declared.command.Command.Command}
 use Rattle.volap_cell.proofs.OneEvent.Older.{live-stays, on-stays, was-stays, comes-stays, insert-kept}
 

@@ -15,8 +15,8 @@ use Rattle.row_ledger.specs.{Bounds.{own, passed, listed, known, published, list
 use Rattle.row_ledger.proofs.{Changes.synced-changes, Descent.comes_from-self, Older.published-older}
 use Rattle.list_words.proofs.{Elements.{Contains-nil, Contains-filtered, IsTrue-filtered}, Truth.eqb-self}
 use Rattle.server_image.specs.{Image.ImageValue, Registry.RegistryValue}
-use Rattle.shard_store.specs.{declared.gate.Gate.Gate, declared.gate.Phase.Phase, declared.queue.Queue.Queue}
-use Rattle.tree_shape.specs.Shape.{Shape}
+use Rattle.shard_build.specs.shard_store.specs.{declared.gate.Gate.Gate, declared.gate.Phase.Phase, declared.queue.Queue.Queue}
+use Rattle.shard_build.specs.tree_shape.specs.Shape.{Shape}
 use Rattle.volap_cell.specs.{Desking.Desking, Errands.{ReadPart, RowWay, Taken}, Growing.Resting, Imaging.{Fits, IsCovered, IsImageOf}, Lineage.Lineage, Placing.{Placing, Inserting}, Querying.Querying, Setting.Setting, Values.JobValue, View.row_at, Working.{Working, Balancing}, declared.command.Command.Command, declared.role.Role.Role}
 use Rattle.volap_cell.proofs.{OneEvent.Desks.{desking-grown, querying-grown}, OneEvent.Known.{AreOlder, image-grown}, OneEvent.Older.{insert-same, query-same, rows-same, Any-weaker}, OneEvent.Rows.{resting-grown, lineage-grown, placing-grown, inserting-grown}, OneEvent.Work.{working-grown, balancing-grown}}
 

@@ -5,10 +5,10 @@ use Rattle.dim_hierarchy.specs.declared.row.Row.{Row}
 use Rattle.dc_node.specs.declared.block.Block.{Block}
 use Rattle.row_ledger.specs.{Kept.KeepsRight, declared.event.Event.Event}
 use Rattle.row_ledger.proofs.Positions.{event_at-past}
-use Rattle.shard_store.specs.{declared.gate.Gate.Gate, declared.gate.Phase.Phase, declared.queue.Queue.Queue}
+use Rattle.shard_build.specs.shard_store.specs.{declared.gate.Gate.Gate, declared.gate.Phase.Phase, declared.queue.Queue.Queue}
 use Rattle.list_words.specs.Counts.{Each}
-use Rattle.tree_shape.specs.{Shape.Shape, Tables.{AreAlike, IsThere}}
-use Rattle.tree_shape.proofs.Whole.Tables.{tree-alike}
+use Rattle.shard_build.specs.tree_shape.specs.{Shape.Shape, Tables.{AreAlike, IsThere}}
+use Rattle.shard_build.specs.tree_shape.proofs.Whole.Tables.{tree-alike}
 use Rattle.volap_cell.specs.{Growing.{table_of, Growing, Queueing}, Numbering.IsSetting, Setting.{Setting, site_in}, Stocking.{cells_at, IsWhole}, View.{row_at, no_row}}
 use Rattle.volap_cell.proofs.OneEvent.Older.{row-older}
 

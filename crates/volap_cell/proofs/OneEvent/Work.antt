@@ -8,10 +8,10 @@ use Rattle.row_ledger.specs.{Bounds.may, Changes.ShardsStay, Past.{Ack, Step, ac
 use Rattle.row_ledger.proofs.{Older.may-older, Positions.before-older}
 use Rattle.shard_plan.specs.{declared.action.Action.Action, declared.action.Load.Load}
 use Rattle.shard_plan.specs.declared.action.Action.TheVariants as action
-use Rattle.shard_store.specs.{declared.gate.Gate.Gate, declared.gate.Phase.Phase, declared.queue.Queue.Queue}
+use Rattle.shard_build.specs.shard_store.specs.{declared.gate.Gate.Gate, declared.gate.Phase.Phase, declared.queue.Queue.Queue}
 use Rattle.list_words.specs.Counts.{Each}
 use Rattle.list_words.proofs.Each.{each-map}
-use Rattle.tree_shape.specs.Shape.{Shape}
+use Rattle.shard_build.specs.tree_shape.specs.Shape.{Shape}
 use Rattle.volap_cell.specs.{Growing.IsUnder, Setting.{Setting, site_in}, Values.{BuildingValue, CollectingValue, JobValue}, Working.{HasBegun, IsBuilding, IsCollected, IsDeclinedFor, Working, IsReadLoad, IsAhead, IsPlanned, IsBalancing, Balancing}, declared.command.Balance.Balance, declared.command.Command.Command}
 use Rattle.volap_cell.specs.declared.command.Work.TheVariants as work_is
 use Rattle.volap_cell.proofs.{Histories.Knowing.insert-older, OneEvent.Older.{comes-stays, live-stays, on-stays, Any-weaker}, OneEvent.Rows.{under-grown, under-was}}

@@ -4,7 +4,7 @@ use Rattle.dim_hierarchy.specs.Dimension.{Dimension}
 use Rattle.cell_stock.specs.Stock.{StockValue}
 use Rattle.describing_set.specs.declared.plane.Plane.{Plane}
 use Rattle.row_ledger.specs.{LedgerValue.LedgerValue, declared.event.Event.Event, declared.settings.Decline.Decline}
-use Rattle.shard_store.specs.declared.gate.Gate.{Gate}
+use Rattle.shard_build.specs.shard_store.specs.declared.gate.Gate.{Gate}
 use Rattle.list_words.proofs.Each.{each-append}
 use Rattle.volap_cell.specs.{AdminKinds.{DoesDrained, CollectsBlock, CollectsQueued, CollectsAll, DoesBuildBlock, DoesFinishSplit, DoesFinishMove, DoesPostpone, ReusesBlock, ReusesGate, Declines, Freezes, Finishes, GivesUp, MovesIn, PushesBoth}, Cells.{CellValue, FreeCell, LedgerCell, StockCell, RegistryCell, ImageCell, DeskCell, MapCell, GateCell, BlockCell, OfStock, tag_of}, Commands.after_action, ImageKinds.{Pushes, doing}, Planning.next_job, Setting.Setting, Values.{ActorValue, JobValue}, View.view, World.{World, Change, Agrees, after}, declared.command.Command.Command, declared.command.Work.Work}
 use Rattle.volap_cell.specs.declared.command.Work.TheVariants as work_is

@@ -1,6 +1,6 @@
 -- A gate's fields after the steps that change it: new at its cell and as before at every other.
 use Rattle.std.proofs.Common.{◌≡◌, ◌≢◌, ℕ, List, [], ◌∷◌, inl, inr, refl, sym, ap, ◌∙◌}
-use Rattle.shard_store.specs.declared.gate.Gate.{Gate}
+use Rattle.shard_build.specs.shard_store.specs.declared.gate.Gate.{Gate}
 use Rattle.volap_cell.specs.{Cells.{CellValue, MapOf, OfStock, GateCell, tag_of}, TreeKinds.TurnsGate, World.{Change, put}}
 use Rattle.volap_cell.proofs.{Views.Fields.{IsNewAt, OnlyAt}, Views.Frames.{AreAt, Same, kept-but, first, second, differ}}
 

@@ -3,7 +3,7 @@ use Rattle.std.proofs.Common.{◌≡◌, ℕ, true, List, [], ◌∷◌, ◌++�
 use Rattle.dim_hierarchy.specs.Dimension.{Dimension}
 use Rattle.describing_set.specs.declared.plane.Plane.{Plane}
 use Rattle.query_router.specs.declared.part.Part.{Part}
-use Rattle.shard_store.specs.declared.gate.Gate.{Gate}
+use Rattle.shard_build.specs.shard_store.specs.declared.gate.Gate.{Gate}
 use Rattle.list_words.proofs.Each.{each-append}
 use Rattle.volap_cell.specs.{Cells.GateCell, Errands.{is_filled, place_of}, Setting.Setting, ShardKinds.{DoesTakePart, NotesHeight, ReadsLoad, DoesForward, DoesExpand, DoesFinishPart, PutsOne, PutsChildren, Unpins, pin_of}, Values.{ActorValue, ErrandValue, TaskValue, OfRow, Unread, Read}, View.view, World.{World, Change, Agrees, after}}
 use Rattle.volap_cell.specs.declared.errand.Way.TheVariants as way

@@ -2,7 +2,7 @@
 -- what is seen beside these leaves every other field.
 use Rattle.std.proofs.Common.{ℕ, Bool, false, cond, List, [], Option, None}
 use Rattle.dc_node.specs.declared.block.Block.{Block}
-use Rattle.shard_store.specs.{declared.gate.Gate.Gate, declared.gate.Phase.Phase, declared.queue.Queue.Queue}
+use Rattle.shard_build.specs.shard_store.specs.{declared.gate.Gate.Gate, declared.gate.Phase.Phase, declared.queue.Queue.Queue}
 use Rattle.cell_stock.specs.{Stock.StockValue, declared.purse.Spare.Spare}
 use Rattle.row_ledger.specs.LedgerValue.{LedgerValue}
 use Rattle.mapping_table.specs.declared.place.Where.{Where}

@@ -2,7 +2,7 @@
 -- fields among which the ones that change are; where these are written out `refl` says so.
 use Rattle.std.proofs.Common.{◌≡◌, ℕ, Bool, true, false, cond, List, [], ◌∷◌, ◌++◌, None, refl, sym, ap, ◌∙◌, subst}
 use Rattle.dc_node.specs.{Block.is_full, declared.block.Block.Block}
-use Rattle.link_descent.specs.declared.entered.Fresh.{Fresh}
+use Rattle.shard_build.specs.link_descent.specs.declared.entered.Fresh.{Fresh}
 use Rattle.query_router.specs.Desk.{DeskValue}
 use Rattle.row_ledger.specs.declared.event.Event.{Event}
 use Rattle.server_image.specs.Image.{ImageValue}

@@ -3,8 +3,8 @@ use Rattle.std.proofs.Common.{◌≡◌, ℕ, ◌+◌, true, List, [], ◌∷◌
 use Rattle.dim_hierarchy.specs.{Dimension.Dimension, declared.row.Row.Row}
 use Rattle.dc_node.specs.declared.block.Block.{Block}
 use Rattle.cell_stock.specs.Stock.{PurseValue}
-use Rattle.link_descent.specs.{Descend.Enters, declared.entered.Entered.Entered}
-use Rattle.shard_store.specs.declared.gate.Gate.{Gate}
+use Rattle.shard_build.specs.link_descent.specs.{Descend.Enters, declared.entered.Entered.Entered}
+use Rattle.shard_build.specs.shard_store.specs.declared.gate.Gate.{Gate}
 use Rattle.list_words.specs.Counts.{Each}
 use Rattle.list_words.proofs.Each.{each-append}
 use Rattle.volap_cell.specs.{Cells.{GateCell, StockCell}, Setting.Setting, TreeKinds.{DoesEnterTree, DoesEnterQueue, DoesLeaveTree, DoesRefill, blocks_of}, Values.ActorValue, View.view, World.{World, Change, Agrees, after}}

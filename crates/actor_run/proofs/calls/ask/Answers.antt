@@ -1,7 +1,7 @@
 use Rattle.std.proofs.Common.{◌∙◌, List, refl, sym, subst}
 use Rattle.actor_run.proofs.Ends.{as-before-on, as-before-self, asked-behind, still-begins}
 use Rattle.dim_hierarchy.specs.{Filter.IsFilterOf, declared.filter.Pick.Pick}
-use Rattle.session_steps.specs.Begins.{HasAsked}
+use Rattle.whole_steps.specs.session_steps.specs.Begins.{HasAsked}
 use Rattle.actor_run.proofs.calls.ask.Goals as goal
 
 pub loop-init : goal.loop-init

@@ -1,5 +1,5 @@
 use Rattle.std.proofs.Common.{◌≡◌}
-use Rattle.seat_steps.specs.Booked.{IsAsBefore}
+use Rattle.whole_steps.specs.seat_steps.specs.Booked.{IsAsBefore}
 use Rattle.actor_run.proofs.calls.ask.Given as goal
 
 abbrev pub invariant-loop : goal.invariant-loop

@@ -2,8 +2,8 @@ use Rattle.actor_run.specs.Doing.{HasDone, HasRefused}
 use Rattle.std.proofs.Common.{ℤ, ap, subst, rules}
 use Rattle.actor_run.specs.Driving.{EndsSince}
 use Rattle.actor_run.proofs.{Ends.{insert-acked, insert-failed, insert-nothing, insert-open, insert-refused, insert-unanswered}, Measured.measured, Sessions.{as-before, can-begin, refused-later}}
-use Rattle.session_steps.specs.{Begins.HasBegunInsert, declared.commands.End.End}
-use Rattle.volap_cell.specs.Values.{ActorValue}
+use Rattle.whole_steps.specs.session_steps.specs.{Begins.HasBegunInsert, declared.commands.End.End}
+use Rattle.whole_steps.specs.volap_cell.specs.Values.{ActorValue}
 use Rattle.actor_run.proofs.calls.insert_at.Goals as goal
 
 pub begin_insert-requires-clause-stands : goal.begin_insert-requires-clause-stands

@@ -3,7 +3,7 @@ use Rattle.actor_run.specs.Doing.{HasDone, HasRefused}
 use Rattle.std.proofs.Common.{subst}
 use Rattle.std.proofs.Common.{ap}
 use Rattle.actor_run.proofs.Sessions.{as-before, refused-later, told}
-use Rattle.volap_cell.specs.Values.{ActorValue}
+use Rattle.whole_steps.specs.volap_cell.specs.Values.{ActorValue}
 use Rattle.actor_run.proofs.calls.note.Goals as goal
 
 pub note_unknown-requires-clause-stands : goal.note_unknown-requires-clause-stands

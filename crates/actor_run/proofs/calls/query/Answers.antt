@@ -2,7 +2,7 @@ use Rattle.std.proofs.Common.{◌≡◌, OnOk, IfOk, subst}
 use Rattle.actor_run.specs.{Doing.Does, Sessions.TriesQuery}
 use Rattle.actor_run.proofs.Ends.{query-nothing}
 use Rattle.dim_hierarchy.specs.Filter.{IsFilterNamed}
-use Rattle.seat_steps.specs.declared.floor.Player.{Player}
+use Rattle.whole_steps.specs.seat_steps.specs.declared.floor.Player.{Player}
 use Rattle.actor_run.proofs.calls.query.Goals as goal
 
 pub returns-in_err-picks-clause-does : goal.returns-in_err-picks-clause-does

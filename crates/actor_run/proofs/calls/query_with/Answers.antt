@@ -2,8 +2,8 @@ use Rattle.actor_run.specs.Doing.{HasDone, HasRefused}
 use Rattle.std.proofs.Common.{ap, subst}
 use Rattle.actor_run.specs.Driving.{EndsSince}
 use Rattle.actor_run.proofs.{Ends.{query-answered, query-failed, query-nothing, query-open, query-refused, query-unacked}, Sessions.{as-before, can-begin, refused-later}}
-use Rattle.session_steps.specs.declared.commands.End.{End}
-use Rattle.volap_cell.specs.Values.{ActorValue}
+use Rattle.whole_steps.specs.session_steps.specs.declared.commands.End.{End}
+use Rattle.whole_steps.specs.volap_cell.specs.Values.{ActorValue}
 use Rattle.actor_run.proofs.calls.query_with.Goals as goal
 
 pub ask-requires-clause-stands : goal.ask-requires-clause-stands

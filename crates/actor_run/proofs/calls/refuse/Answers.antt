@@ -1,6 +1,6 @@
 use Rattle.std.proofs.Common.{ap}
 use Rattle.actor_run.proofs.{Ends.as-before-on, Sessions.{as-before, refused-noted, still-free}}
-use Rattle.volap_cell.specs.Values.{ActorValue}
+use Rattle.whole_steps.specs.volap_cell.specs.Values.{ActorValue}
 use Rattle.actor_run.proofs.calls.refuse.Goals as goal
 
 pub note_refused-requires-clause-stands : goal.note_refused-requires-clause-stands

@@ -1,7 +1,7 @@
 use Rattle.std.proofs.Common.{List, sym, subst, arith}
 use Rattle.actor_run.proofs.TwoSessions.{two-fit, with}
 use Rattle.actor_run.specs.Halls.{IsHallFor}
-use Rattle.volap_cell.specs.declared.role.Role.{Role}
+use Rattle.whole_steps.specs.volap_cell.specs.declared.role.Role.{Role}
 use Rattle.actor_run.proofs.cursor_tests.opened.Goals as goal
 
 pub open-requires : goal.open-requires

@@ -1,5 +1,5 @@
 use Rattle.actor_run.proofs.Given.{bare, rests}
-use Rattle.volap_turns.specs.Law.{rests-free}
+use Rattle.whole_steps.specs.volap_turns.specs.Law.{rests-free}
 use Rattle.actor_run.proofs.cursor_tests.seat_of.Goals as goal
 
 pub returns-clause-empty : goal.returns-clause-empty

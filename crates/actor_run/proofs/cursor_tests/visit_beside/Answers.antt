@@ -2,9 +2,9 @@ use Rattle.std.proofs.Common.{◌≡◌, ◌∙◌, ℕ, List, [], ◌∷◌, �
 use mathlib.Core.Option.{some}
 use Rattle.turn_table.proofs.Numbered.{find_here}
 use Rattle.row_ledger.specs.declared.event.Event.{Event}
-use Rattle.seat_steps.specs.declared.floor.Floor.{Floor}
+use Rattle.whole_steps.specs.seat_steps.specs.declared.floor.Floor.{Floor}
 use Rattle.turn_table.specs.{Numbered.{value_of, without}, Seat.SeatValue}
-use Rattle.volap_cell.specs.declared.{actor.Actor.Actor, cell.Cell.Cell}
+use Rattle.whole_steps.specs.volap_cell.specs.declared.{actor.Actor.Actor, cell.Cell.Cell}
 use Rattle.actor_run.proofs.cursor_tests.visit_beside.Goals as goal
 
 -- where no cell is held, one that is taken is there, and none is left when it is given back

@@ -3,7 +3,7 @@ use Rattle.actor_run.specs.{Doing.Does, Sessions.{EndedQuery, EndsQuery}}
 use Rattle.actor_run.proofs.Ends.{ended-query}
 use Rattle.actor_run.specs.declared.session.Asked.{Asked}
 use Rattle.dim_hierarchy.specs.declared.filter.NamePick.{NamePick}
-use Rattle.seat_steps.specs.declared.floor.Player.{Player}
+use Rattle.whole_steps.specs.seat_steps.specs.declared.floor.Player.{Player}
 use Rattle.actor_run.proofs.gates.begin.Goals as goal
 
 on-err : {T E : Type 0} (P Q : E → Type 0) (r : Result T E) → ((e : E) → P e → Q e) → IfErr r P → IfErr r Q

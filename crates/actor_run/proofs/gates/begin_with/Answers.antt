@@ -1,8 +1,8 @@
 use Rattle.std.proofs.Common.{◌∙◌, List, inl, sym, ap, subst}
 use Rattle.actor_run.proofs.{CursorOpen.no-answer, Ends.{query-open, query-stopped}, Sessions.{as-before, can-begin, refused-later}}
 use Rattle.dim_hierarchy.specs.{Filter.IsFilterNamed, declared.filter.Pick.Pick}
-use Rattle.session_steps.specs.Begins.{HasAsked}
-use Rattle.volap_cell.specs.Values.{ActorValue}
+use Rattle.whole_steps.specs.session_steps.specs.Begins.{HasAsked}
+use Rattle.whole_steps.specs.volap_cell.specs.Values.{ActorValue}
 use Rattle.actor_run.proofs.gates.begin_with.Goals as goal
 
 pub ask-requires-clause-stands : goal.ask-requires-clause-stands

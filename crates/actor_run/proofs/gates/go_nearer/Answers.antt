@@ -1,7 +1,7 @@
 use Rattle.std.proofs.Common.{ap}
 use Rattle.std.specs.Prelude.{option_map}
 use Rattle.actor_run.proofs.{CursorOpen.before-taken, Opened.{command-on, has-open, part-on}}
-use Rattle.volap_cell.specs.Values.{errand_of, task_of}
+use Rattle.whole_steps.specs.volap_cell.specs.Values.{errand_of, task_of}
 use Rattle.actor_run.proofs.gates.go_nearer.Goals as goal
 
 pub take_waiting-requires-clause-stands : goal.take_waiting-requires-clause-stands

@@ -1,6 +1,6 @@
 use Rattle.actor_run.specs.Driving.{IsOpenSince}
-use Rattle.part_steps.specs.Reads.{IsBeforeBlocks}
-use Rattle.volap_cell.specs.Values.{actor_of}
+use Rattle.whole_steps.specs.part_steps.specs.Reads.{IsBeforeBlocks}
+use Rattle.whole_steps.specs.volap_cell.specs.Values.{actor_of}
 use Rattle.actor_run.proofs.gates.go_to_gate.Given as goal
 
 abbrev pub invariant-loop : goal.invariant-loop

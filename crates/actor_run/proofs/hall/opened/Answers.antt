@@ -1,7 +1,7 @@
 use Rattle.std.proofs.Common.{◌∙◌, IfOk, Err, List, [], ◌∷◌, ◌++◌, Ok, Result, ap, subst}
 use Rattle.actor_run.proofs.Opening.{opened-table}
 use Rattle.actor_run.specs.Halls.{hall_setting, own_role}
-use Rattle.volap_cell.specs.{Filling.{IsOpened, setting_for}, declared.role.Role.Role}
+use Rattle.whole_steps.specs.volap_cell.specs.{Filling.{IsOpened, setting_for}, declared.role.Role.Role}
 use Rattle.actor_run.proofs.hall.opened.Goals as goal
 
 -- what follows of four facts about what a call gives

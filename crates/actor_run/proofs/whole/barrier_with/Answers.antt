@@ -4,7 +4,7 @@ use Rattle.actor_run.specs.Passes.{ArePasses, missing}
 use Rattle.row_ledger.specs.declared.event.Event.TheVariants.{Ended}
 use Rattle.row_ledger.specs.declared.settings.Call.TheVariants.{Barrier}
 use Rattle.row_ledger.specs.declared.settings.How.TheVariants.{Fine}
-use Rattle.volap_cell.specs.{Values.actor_of, declared.actor.Actor.Actor}
+use Rattle.whole_steps.specs.volap_cell.specs.{Values.actor_of, declared.actor.Actor.Actor}
 use Rattle.actor_run.proofs.whole.barrier_with.Goals as goal
 
 pub call_barrier-requires-clause-stands : goal.call_barrier-requires-clause-stands

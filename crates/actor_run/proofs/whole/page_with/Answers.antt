@@ -1,7 +1,7 @@
 use Rattle.std.proofs.Common.{◌≡◌, ◌∙◌, List, [], Option, subst, sym}
 use Rattle.actor_run.proofs.Gathered.{begun-else, other-number, can-call, missing-put, own-after, own-in, own-number, own-role, page-may, page-no-sync, paged-done, paged-later, put-back, role-after, role-in, role-number, role-role, sole-of, told-by}
 use Rattle.actor_run.specs.Passes.{ArePasses, missing}
-use Rattle.volap_cell.specs.{Values.actor_of, declared.actor.Actor.Actor}
+use Rattle.whole_steps.specs.volap_cell.specs.{Values.actor_of, declared.actor.Actor.Actor}
 use Rattle.actor_run.proofs.whole.page_with.Goals as goal
 
 pub call_page-requires-clause-stands : goal.call_page-requires-clause-stands

@@ -2,7 +2,7 @@ use Rattle.std.proofs.Common.{◌≡◌, ◌∙◌, List, [], Option, subst, sym
 use Rattle.actor_run.proofs.Gathered.{begun-else, other-number, can-call, missing-put, own-after, own-in, own-number, own-role, put-back, role-after, role-in, role-number, role-role, settled-done, settled-later, settled-so, sole-of}
 use Rattle.actor_run.specs.Passes.{ArePasses, missing}
 use Rattle.row_ledger.specs.declared.settings.Call.TheVariants.{Settle}
-use Rattle.volap_cell.specs.{Values.actor_of, declared.actor.Actor.Actor}
+use Rattle.whole_steps.specs.volap_cell.specs.{Values.actor_of, declared.actor.Actor.Actor}
 use Rattle.actor_run.proofs.whole.settle_with.Goals as goal
 
 pub call_settle-requires-clause-stands : goal.call_settle-requires-clause-stands

@@ -2,11 +2,11 @@ use Rattle.std.proofs.Common.{◌∙◌, ap, subst, sym}
 use Rattle.std.specs.Prelude.{is_some}
 use Rattle.call_steps.proofs.{CallsDue.{called-asked, ledger-due}, CallsMade.{alone-begun, begun-at}}
 use Rattle.call_steps.specs.Calls.{HasCalled}
-use Rattle.core_steps.specs.Notes.{note_asks}
-use Rattle.core_steps.specs.declared.notes.NoteStep.TheVariants.{Called}
-use Rattle.part_steps.proofs.Keeping.{note-kept}
-use Rattle.seat_steps.proofs.{HeldLedger.tells-held, Since.{nothing-told, still-unchanged}, WithLedger.up-none}
-use Rattle.volap_cell.specs.Values.{ActorValue}
+use Rattle.session_steps.specs.core_steps.specs.Notes.{note_asks}
+use Rattle.session_steps.specs.core_steps.specs.declared.notes.NoteStep.TheVariants.{Called}
+use Rattle.session_steps.specs.part_steps.proofs.Keeping.{note-kept}
+use Rattle.session_steps.specs.seat_steps.proofs.{HeldLedger.tells-held, Since.{nothing-told, still-unchanged}, WithLedger.up-none}
+use Rattle.session_steps.specs.volap_cell.specs.Values.{ActorValue}
 use Rattle.call_steps.proofs.calls.begin_alone.Goals as goal
 
 pub make_booked-requires-clause-held : goal.make_booked-requires-clause-held

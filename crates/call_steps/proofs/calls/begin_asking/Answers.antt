@@ -2,12 +2,12 @@ use Rattle.std.proofs.Common.{◌∙◌, ℕ, List, [], ◌∷◌, Some, ap, ari
 use Rattle.std.specs.Prelude.{is_some}
 use Rattle.call_steps.proofs.{CallsDue.{asking-asked, both-due, registry-within}, CallsMade.{asking-begun, begun-at}}
 use Rattle.call_steps.specs.Calls.{HasCalled}
-use Rattle.core_steps.specs.{Notes.note_asks, Places.two_at}
-use Rattle.core_steps.specs.declared.notes.NoteStep.TheVariants.{Asking}
-use Rattle.part_steps.proofs.Keeping.{note-kept}
-use Rattle.seat_steps.proofs.{HeldLedger.tells-held, Since.{as-before, as-err, before-unchanged, nothing-held, unchanged, unchanged-on}, WithLedger.{due-still, up-one}}
+use Rattle.session_steps.specs.core_steps.specs.{Notes.note_asks, Places.two_at}
+use Rattle.session_steps.specs.core_steps.specs.declared.notes.NoteStep.TheVariants.{Asking}
+use Rattle.session_steps.specs.part_steps.proofs.Keeping.{note-kept}
+use Rattle.session_steps.specs.seat_steps.proofs.{HeldLedger.tells-held, Since.{as-before, as-err, before-unchanged, nothing-held, unchanged, unchanged-on}, WithLedger.{due-still, up-one}}
 use Rattle.turn_table.specs.Numbered.{value_of}
-use Rattle.volap_cell.specs.{Setting.{ledger_cell, registry_cell}, Values.ActorValue, declared.cell.Cell.Cell}
+use Rattle.session_steps.specs.volap_cell.specs.{Setting.{ledger_cell, registry_cell}, Values.ActorValue, declared.cell.Cell.Cell}
 use Rattle.call_steps.proofs.calls.begin_asking.Goals as goal
 
 pub take_first-requires-clause-cell : goal.take_first-requires-clause-cell

@@ -1,10 +1,10 @@
 use Rattle.std.proofs.Common.{◌∙◌, ap, refl}
 use Rattle.call_steps.proofs.{CallsDue.end-due, CallsMade.has-ended}
-use Rattle.core_steps.specs.declared.notes.NoteStep.TheVariants.{Ended}
-use Rattle.part_steps.proofs.Keeping.{note-kept}
-use Rattle.seat_steps.proofs.{Since.{nothing-told, still-unchanged}, WithLedger.up-none}
-use Rattle.volap_cell.specs.Values.{ActorValue}
-use Rattle.volap_turns.proofs.Turned.{when-ok}
+use Rattle.session_steps.specs.core_steps.specs.declared.notes.NoteStep.TheVariants.{Ended}
+use Rattle.session_steps.specs.part_steps.proofs.Keeping.{note-kept}
+use Rattle.session_steps.specs.seat_steps.proofs.{Since.{nothing-told, still-unchanged}, WithLedger.up-none}
+use Rattle.session_steps.specs.volap_cell.specs.Values.{ActorValue}
+use Rattle.session_steps.specs.volap_turns.proofs.Turned.{when-ok}
 use Rattle.call_steps.proofs.ends.end_call.Goals as goal
 
 pub make_booked-requires-clause-held : goal.make_booked-requires-clause-held

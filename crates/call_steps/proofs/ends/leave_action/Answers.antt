@@ -1,12 +1,12 @@
 use Rattle.std.proofs.Common.{◌∙◌, ◌^◌, ◌<◌, ap, refl, subst}
 use Rattle.std.specs.Prelude.{is_some}
 use Rattle.call_steps.proofs.{CallsDue.leave-due, CallsMade.{has-left, work-at}}
-use Rattle.core_due.specs.WorksReady.{most_in}
-use Rattle.core_steps.specs.declared.notes.NoteStep.TheVariants.{Left}
-use Rattle.part_steps.proofs.Keeping.{note-kept}
-use Rattle.seat_steps.proofs.{Since.{nothing-told, still-unchanged}, WithLedger.up-none}
-use Rattle.volap_cell.specs.{Values.ActorValue, declared.command.Work.Work}
-use Rattle.volap_turns.proofs.Turned.{when-ok}
+use Rattle.session_steps.specs.core_due.specs.WorksReady.{most_in}
+use Rattle.session_steps.specs.core_steps.specs.declared.notes.NoteStep.TheVariants.{Left}
+use Rattle.session_steps.specs.part_steps.proofs.Keeping.{note-kept}
+use Rattle.session_steps.specs.seat_steps.proofs.{Since.{nothing-told, still-unchanged}, WithLedger.up-none}
+use Rattle.session_steps.specs.volap_cell.specs.{Values.ActorValue, declared.command.Work.Work}
+use Rattle.session_steps.specs.volap_turns.proofs.Turned.{when-ok}
 use Rattle.call_steps.proofs.ends.leave_action.Goals as goal
 
 pub there-requires : goal.there-requires

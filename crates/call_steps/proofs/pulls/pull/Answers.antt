@@ -1,12 +1,12 @@
 use Rattle.std.proofs.Common.{◌∙◌, ℕ, List, [], ◌∷◌, ◌++◌, Option, ap, arith, subst, sym}
 use Rattle.std.specs.Prelude.{is_some}
 use Rattle.call_steps.proofs.{CallsDue.pulls-due, CallsMade.has-pulled}
-use Rattle.core_steps.specs.{Books.{book_asks, book_places}, declared.books.BookStep.TheVariants.Sync}
-use Rattle.part_steps.proofs.Keeping.{book-kept}
-use Rattle.seat_steps.proofs.{Since.{as-before, before-unchanged, map-err, map-ok, nothing-told, unchanged-on}, WithLedger.{next-cell, up-two}}
-use Rattle.seat_steps.specs.Booked.{IsDue, IsUpToLedger}
+use Rattle.session_steps.specs.core_steps.specs.{Books.{book_asks, book_places}, declared.books.BookStep.TheVariants.Sync}
+use Rattle.session_steps.specs.part_steps.proofs.Keeping.{book-kept}
+use Rattle.session_steps.specs.seat_steps.proofs.{Since.{as-before, before-unchanged, map-err, map-ok, nothing-told, unchanged-on}, WithLedger.{next-cell, up-two}}
+use Rattle.session_steps.specs.seat_steps.specs.Booked.{IsDue, IsUpToLedger}
 use Rattle.turn_table.specs.Numbered.{numbers_of}
-use Rattle.volap_cell.specs.{Setting.{image_cell, ledger_cell, registry_cell}, Values.ActorValue}
+use Rattle.session_steps.specs.volap_cell.specs.{Setting.{image_cell, ledger_cell, registry_cell}, Values.ActorValue}
 use Rattle.call_steps.proofs.pulls.pull.Goals as goal
 
 pub there-requires : goal.there-requires

@@ -1,6 +1,6 @@
 use Rattle.std.proofs.Common.{◌∙◌, ℕ, ◌<◌, List, [], ◌∷◌, ◌++◌, length, Option, Some, ap, arith, subst, sym}
 use Rattle.call_steps.proofs.CallsDue.{off-image, registry-within}
-use Rattle.seat_steps.proofs.{Ranks.{order-more, order-none}, Since.{unchanged, unchanged-on}, WithLedger.{held-below, one-below}}
+use Rattle.session_steps.specs.seat_steps.proofs.{Ranks.{order-more, order-none}, Since.{unchanged, unchanged-on}, WithLedger.{held-below, one-below}}
 use Rattle.turn_table.proofs.Numbered.{find_else, none_same}
 use Rattle.turn_table.specs.{Numbered.value_of, Seat.{IsInOrder, cell_count}}
 use Rattle.call_steps.proofs.pulls.take_listings.Goals as goal

@@ -2,8 +2,8 @@ use Rattle.std.proofs.Common.{◌∙◌, sym, ap}
 use Rattle.call_steps.proofs.{OpenCalls.{call-done, call-opened, open-still, pulled-on}, Syncing.{may-end, may-fail, may-pull}}
 use Rattle.call_steps.specs.Opened.{IsCallOpen}
 use Rattle.row_ledger.specs.declared.settings.{Call.TheVariants.Sync, How.TheVariants.{Fine, NoMemory}}
-use Rattle.volap_cell.specs.Values.{ActorValue}
-use Rattle.volap_turns.proofs.Turned.{when-err, when-ok}
+use Rattle.session_steps.specs.volap_cell.specs.Values.{ActorValue}
+use Rattle.session_steps.specs.volap_turns.proofs.Turned.{when-err, when-ok}
 use Rattle.call_steps.proofs.syncs.sync.Goals as goal
 
 pub pull-requires-clause-stands : goal.pull-requires-clause-stands

@@ -1,5 +1,5 @@
 use Rattle.std.proofs.Common.{Some, ap, option_map, sym, ◌∙◌}
-use Rattle.volap_cell.specs.{Cells.cell_of, Values.{actor_of, job_of}, declared.job.Job.Job}
+use Rattle.core_tree.specs.volap_cell.specs.{Cells.cell_of, Values.{actor_of, job_of}, declared.job.Job.Job}
 use Rattle.core_admin.proofs.Building.BuildsBlock.{build-makes, is-unbuilt}
 use Rattle.core_admin.proofs.builds.build_block.Goals as goal
 

@@ -1,4 +1,4 @@
-use Rattle.volap_cell.specs.{AdminKinds.spent_in, Values.stage_of}
+use Rattle.core_tree.specs.volap_cell.specs.{AdminKinds.spent_in, Values.stage_of}
 use Rattle.core_admin.proofs.builds.give_all.Goals as goal
 
 pub give_spent-requires : goal.give_spent-requires

@@ -1,5 +1,5 @@
 use Rattle.std.proofs.Common.{Bool, Option, true, ap, option_map, refl, subst, sym}
-use Rattle.volap_cell.specs.{AdminKinds.spent_in, Cells.{cell_of}, Values.{actor_of, job_of, stage_of}, declared.command.Command.Command, declared.job.Job.Job}
+use Rattle.core_tree.specs.volap_cell.specs.{AdminKinds.spent_in, Cells.{cell_of}, Values.{actor_of, job_of, stage_of}, declared.command.Command.Command, declared.job.Job.Job}
 use Rattle.core_admin.specs.FinishDue.{Closes, GivesAll, MayClose, MayGiveAll, NotesGivenUp, plans}
 use Rattle.core_admin.proofs.Postponing.PostponeReady.{gone-promised, may-close, may-give, postpone-makes}
 use Rattle.core_admin.proofs.builds.postpone.Goals as goal

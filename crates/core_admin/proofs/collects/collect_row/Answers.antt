@@ -1,6 +1,6 @@
 use Rattle.std.proofs.Common.{Box, Global, Some, ◌∙◌, option_map, refl, sym, ap}
-use Rattle.volap_cell.specs.{Cells.{cell_of}, Values.{actor_of, job_of}, declared.job.Job.Job}
-use Rattle.volap_cell.proofs.Outcomes.{on-ok}
+use Rattle.core_tree.specs.volap_cell.specs.{Cells.{cell_of}, Values.{actor_of, job_of}, declared.job.Job.Job}
+use Rattle.core_tree.specs.volap_cell.proofs.Outcomes.{on-ok}
 use Rattle.core_admin.proofs.Collecting.CollectsHere.{has-more, row-makes}
 use Rattle.core_admin.proofs.collects.collect_row.Goals as goal
 

@@ -1,5 +1,5 @@
 use Rattle.std.proofs.Common.{Bool, is_some, option_map, subst, sym}
-use Rattle.volap_cell.specs.Values.{job_of}
+use Rattle.core_tree.specs.volap_cell.specs.Values.{job_of}
 use Rattle.core_admin.specs.FinishDue.{ClosesDone, MayCloseDone, with_one_done}
 use Rattle.core_admin.proofs.Jobs.Finishings.{goes-on-done}
 use Rattle.core_admin.proofs.finishes.close_done.Goals as goal

@@ -1,6 +1,6 @@
 use Rattle.std.proofs.Common.{Box, Global, IsSome, Some, [], ap, option_map, refl, subst, sym, ◌∙◌, ◌∷◌}
-use Rattle.volap_cell.specs.{Cells.{cell_of, gate_shard}, Lending.{owner_of, with_map}, Values.{ActorValue, actor_of, job_of}, World.held, declared.job.Job.Job}
-use Rattle.volap_cell.proofs.{Outcomes.as-err}
+use Rattle.core_tree.specs.volap_cell.specs.{Cells.{cell_of, gate_shard}, Lending.{owner_of, with_map}, Values.{ActorValue, actor_of, job_of}, World.held, declared.job.Job.Job}
+use Rattle.core_tree.specs.volap_cell.proofs.{Outcomes.as-err}
 use Rattle.core_admin.specs.FinishDue.{FinishesFor, MayFinish}
 use Rattle.core_admin.proofs.{Building.BuiltUp.{gate-there, is-late}, GoneRoom.with-room, Moving.FinishReady.{may-finish, moves-of}, Moving.MoveMade.here-makes}
 use Rattle.core_admin.proofs.finishes.finish_here.Goals as goal

@@ -1,5 +1,5 @@
 use Rattle.std.proofs.Common.{◌≡◌, take}
-use Rattle.shard_store.specs.Gate.{IsQueueOf}
+use Rattle.core_tree.specs.shard_store.specs.Gate.{IsQueueOf}
 use Rattle.core_admin.proofs.finishes.queue_all.Given as goal
 
 abbrev pub invariant-loop-row : goal.invariant-loop-row

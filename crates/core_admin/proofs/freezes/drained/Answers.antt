@@ -1,5 +1,5 @@
 use Rattle.std.proofs.Common.{Box, Global, option_map, refl, sym, ap, subst, IsSome}
-use Rattle.volap_cell.specs.{Cells.{cell_of, gate_shard}, Values.{actor_of, job_of}, declared.job.Job.Job}
+use Rattle.core_tree.specs.volap_cell.specs.{Cells.{cell_of, gate_shard}, Values.{actor_of, job_of}, declared.job.Job.Job}
 use Rattle.core_admin.specs.FreezeDue.{BeginsCollecting}
 use Rattle.core_admin.proofs.Collecting.Drains.{drained-makes, is-gate}
 use Rattle.core_admin.proofs.freezes.drained.Goals as goal

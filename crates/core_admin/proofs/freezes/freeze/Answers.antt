@@ -1,6 +1,6 @@
 use Rattle.std.proofs.Common.{Box, Global, ◌∙◌, option_map, refl, sym, ap, subst, IsSome, Some}
-use Rattle.volap_cell.specs.{Cells.{cell_of, gate_shard}, Lending.{with_stock, with_gate}, Values.{actor_of, job_of}, declared.job.Job.Job}
-use Rattle.volap_cell.proofs.{Outcomes.{on-ok, on-err}}
+use Rattle.core_tree.specs.volap_cell.specs.{Cells.{cell_of, gate_shard}, Lending.{with_stock, with_gate}, Values.{actor_of, job_of}, declared.job.Job.Job}
+use Rattle.core_tree.specs.volap_cell.proofs.{Outcomes.{on-ok, on-err}}
 use Rattle.core_admin.proofs.Collecting.FreezesHere.{freeze-gate, freeze-makes, is-freezable}
 use Rattle.core_admin.proofs.freezes.freeze.Goals as goal
 

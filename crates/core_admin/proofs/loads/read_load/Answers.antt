@@ -1,7 +1,7 @@
 use Rattle.std.proofs.Common.{IsSome, ℕ, Option, Some, option_map, refl, sym, ap, ◌∙◌, subst}
 use Rattle.std.specs.Option.{option_map_or}
-use Rattle.volap_cell.specs.{Cells.{cell_of, gate_shard}, Values.{actor_of, job_of}, declared.command.Command.Command}
-use Rattle.volap_cell.specs.declared.command.Work.TheVariants as work_is
+use Rattle.core_tree.specs.volap_cell.specs.{Cells.{cell_of, gate_shard}, Values.{actor_of, job_of}, declared.command.Command.Command}
+use Rattle.core_tree.specs.volap_cell.specs.declared.command.Work.TheVariants as work_is
 use Rattle.core_admin.specs.LoadDue.{CanNote, NotesLoad}
 use Rattle.core_admin.proofs.Balances.LoadsHere.{can-note, few-rows, its-gate, load-makes}
 use Rattle.core_admin.proofs.loads.read_load.Goals as goal

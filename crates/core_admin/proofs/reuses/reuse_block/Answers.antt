@@ -1,6 +1,6 @@
 use Rattle.std.proofs.Common.{IsSome, ap, subst, sym, refl}
-use Rattle.shard_store.specs.declared.gate.Phase.TheVariants.{Gone}
-use Rattle.volap_cell.specs.{Cells.{GateCell, StockCell, cell_of, gate_shard}, Values.actor_of}
+use Rattle.core_tree.specs.shard_store.specs.declared.gate.Phase.TheVariants.{Gone}
+use Rattle.core_tree.specs.volap_cell.specs.{Cells.{GateCell, StockCell, cell_of, gate_shard}, Values.actor_of}
 use Rattle.core_admin.proofs.Reusing.ReusesHere.{gate-in, block-out, listed, reuse-block-makes}
 use Rattle.core_admin.proofs.reuses.reuse_block.Goals as goal
 

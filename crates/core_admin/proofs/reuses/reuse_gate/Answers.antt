@@ -1,5 +1,5 @@
 use Rattle.std.proofs.Common.{ap}
-use Rattle.volap_cell.specs.{Cells.{StockCell, cell_of}, Values.actor_of}
+use Rattle.core_tree.specs.volap_cell.specs.{Cells.{StockCell, cell_of}, Values.actor_of}
 use Rattle.core_admin.proofs.Reusing.ReusesGateHere.{gate-out, reuse-gate-makes}
 use Rattle.core_admin.proofs.reuses.reuse_gate.Goals as goal
 

@@ -1,7 +1,7 @@
 use Rattle.std.proofs.Common.{Box, Global, IsSome, Some, [], ap, option_map, refl, subst, sym, ℕ, ◌+◌, ◌<◌, ◌^◌, ◌≡◌, ◌∙◌, ◌∷◌}
 use Rattle.cell_stock.specs.Stock.{StockValue}
-use Rattle.volap_cell.specs.{Cells.{StockCell, cell_of, gate_shard}, Lending.{owner_of, with_stock, with_registry, with_map}, Values.{ActorValue, actor_of, job_of}, World.held, declared.job.Job.Job}
-use Rattle.volap_cell.proofs.{Outcomes.as-err}
+use Rattle.core_tree.specs.volap_cell.specs.{Cells.{StockCell, cell_of, gate_shard}, Lending.{owner_of, with_stock, with_registry, with_map}, Values.{ActorValue, actor_of, job_of}, World.held, declared.job.Job.Job}
+use Rattle.core_tree.specs.volap_cell.proofs.{Outcomes.as-err}
 use Rattle.core_admin.specs.SplitDue.{DividesShard, FinishesDivided, MayDivideShard, MayFinishSplit}
 use Rattle.core_admin.proofs.{Building.BuiltUp.gate-there, GoneRoom.with-room, Splitting.SplitMade.split-makes, Splitting.SplitReady.{ids-few, may-divide, may-finish-split}}
 use Rattle.core_admin.proofs.splits.finish_split.Goals as goal

@@ -1,6 +1,6 @@
 use Rattle.std.proofs.Common.{List, ◌∙◌, ◌++◌, ap}
 use Rattle.cell_stock.specs.declared.purse.Spare.{Spare}
-use Rattle.volap_cell.specs.{AdminKinds.spent_by, declared.job.Unbuilt.Unbuilt}
+use Rattle.core_tree.specs.volap_cell.specs.{AdminKinds.spent_by, declared.job.Unbuilt.Unbuilt}
 use Rattle.core_admin.specs.BuildDue.{blocks_of}
 use Rattle.core_admin.proofs.Collecting.RowLists.{map-turned}
 use Rattle.core_admin.proofs.trees.all_placed.Goals as goal

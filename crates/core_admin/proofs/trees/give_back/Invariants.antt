@@ -1,6 +1,6 @@
 use Rattle.std.proofs.Common.{◌≡◌, ◌≤◌, ◌++◌, length, map}
 use Rattle.std.specs.Prelude.{reverse}
-use Rattle.shard_build.specs.Building.{spare_of}
+use Rattle.core_tree.specs.shard_build.specs.Building.{spare_of}
 use Rattle.core_admin.proofs.trees.give_back.Given as goal
 
 abbrev pub invariant-loop-last : goal.invariant-loop-last

@@ -1,6 +1,6 @@
 use Rattle.std.proofs.Common.{List, ◌∙◌, ◌++◌, ap, refl}
 use Rattle.std.specs.Prelude.{reverse}
-use Rattle.volap_cell.specs.{Values.collecting_of, declared.job.Unbuilt.Unbuilt}
+use Rattle.core_tree.specs.volap_cell.specs.{Values.collecting_of, declared.job.Unbuilt.Unbuilt}
 use Rattle.core_admin.specs.BuildDue.{blocks_of}
 use Rattle.core_admin.proofs.Building.MadeTrees.{one-made}
 use Rattle.core_admin.proofs.trees.one_tree.Goals as goal

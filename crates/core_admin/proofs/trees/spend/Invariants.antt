@@ -1,6 +1,6 @@
 use Rattle.std.proofs.Common.{◌≡◌, ◌≤◌, ◌+◌, ◌++◌, take}
 use Rattle.core_admin.specs.BuildDue.{blocks_of}
-use Rattle.volap_cell.specs.AdminKinds.{spent_by}
+use Rattle.core_tree.specs.volap_cell.specs.AdminKinds.{spent_by}
 use Rattle.core_admin.proofs.trees.spend.Given as goal
 
 abbrev pub invariant-loop-one : goal.invariant-loop-one

@@ -2,10 +2,10 @@ use Rattle.std.proofs.{Common.{List, Some, All, ◌≡◌, ◌∙◌, ◌++◌, 
 use Rattle.std.specs.Prelude.{reverse}
 use Rattle.describing_set.specs.Plane.{goes_left}
 use Rattle.dim_hierarchy.specs.{Rows.IsRowOf, declared.row.Row.Row}
-use Rattle.link_descent.specs.declared.entered.Fresh.{Fresh}
+use Rattle.core_tree.specs.link_descent.specs.declared.entered.Fresh.{Fresh}
 use Rattle.shard_plan.specs.Building.{cells_for}
 use Rattle.shard_plan.proofs.Levels.{cells_for-bound}
-use Rattle.volap_cell.specs.{AdminKinds.{left_of, right_of}, Values.collecting_of, declared.job.Unbuilt.Unbuilt}
+use Rattle.core_tree.specs.volap_cell.specs.{AdminKinds.{left_of, right_of}, Values.collecting_of, declared.job.Unbuilt.Unbuilt}
 use Rattle.core_admin.specs.BuildDue.{blocks_of}
 use Rattle.core_admin.proofs.Building.MadeTrees.{sides-count, two-made}
 use Rattle.core_admin.proofs.trees.two_trees.Goals as goal

@@ -3,7 +3,7 @@ use Rattle.std.specs.List.{list_any}
 use Rattle.query_router.specs.Desk.{waits_for}
 use Rattle.core_due.proofs.Below.{any-next}
 use Rattle.core_due.specs.Look.{cell_at, setting_by}
-use Rattle.volap_cell.specs.{Cells.desk_in, Setting.desk_cell}
+use Rattle.core_steps.specs.volap_cell.specs.{Cells.desk_in, Setting.desk_cell}
 use Rattle.core_due.proofs.hands.awaiting.Goals as goal
 
 pub returns-then-is_awaited_at-clause-some : goal.returns-then-is_awaited_at-clause-some

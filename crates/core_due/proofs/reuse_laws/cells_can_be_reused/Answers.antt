@@ -3,7 +3,7 @@ use Rattle.std.specs.Prelude.{⊤}
 use Rattle.core_due.proofs.{InStates.{cells-seen, may-make}, Released.reuse-told, ReusesPrepared.{none-gone, reuse-prepared}}
 use Rattle.core_due.specs.{Look.cells_only, Reuses.reuse_due}
 use Rattle.core_steps.specs.Reuses.{reuse_asks, reuse_places}
-use Rattle.volap_cell.specs.Cells.{CellValue}
+use Rattle.core_steps.specs.volap_cell.specs.Cells.{CellValue}
 use Rattle.core_due.proofs.reuse_laws.cells_can_be_reused.Goals as goal
 
 pub returns : goal.returns

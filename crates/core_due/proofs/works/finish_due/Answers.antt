@@ -4,7 +4,7 @@ use Rattle.cell_stock.specs.declared.purse.Spare.{Spare}
 use Rattle.core_due.specs.{Look.setting_by, Works.{finish_due, move_with}, declared.works.WorkDue.TheVariants.Jobs}
 use Rattle.core_due.proofs.LastItems.{last-at}
 use Rattle.core_steps.specs.declared.jobs.JobStep.{JobStep}
-use Rattle.volap_cell.specs.Values.{actor_of, job_of}
+use Rattle.core_steps.specs.volap_cell.specs.Values.{actor_of, job_of}
 use Rattle.core_due.proofs.works.finish_due.Goals as goal
 
 pub returns-in-Some-last : goal.returns-in-Some-last

@@ -1,6 +1,6 @@
 use Rattle.std.proofs.{Common.{length, sym, ◌∙◌, ap, subst, arith}, lemmas.List.take_all}
 use Rattle.measure_agg.specs.{Aggregate.Aggregate, Joining.join}
-use Rattle.volap_cell.specs.Cells.{CellValue}
+use Rattle.core_image.specs.volap_cell.specs.Cells.{CellValue}
 use Rattle.core_pages.specs.{Looks.{StateValue, cells_in, gate_in}, Shards.{CanLead, agg_of_gate, agg_of_spots, frontier_in}}
 use Rattle.core_pages.proofs.{StateLines.{can-lead, gate-at}, StateRows.{audited-in, few-in, one-more, room-for-one}}
 use Rattle.core_pages.proofs.audits.audit_page.Goals as goal

@@ -2,7 +2,7 @@ use Rattle.std.proofs.Common.{◌+◌, ◌-◌, ◌++◌, length, sym, ap, ◌�
 use Rattle.std.specs.List.{flat_map}
 use Rattle.dc_node.specs.{Block.size, declared.block.Block.Block}
 use Rattle.list_words.specs.Counts.{total}
-use Rattle.tree_shape.specs.PageLines.{group, linked, walk}
+use Rattle.core_image.specs.tree_shape.specs.PageLines.{group, linked, walk}
 use Rattle.core_pages.specs.{Blocks.IsNoteOf, Looks.{StateValue, blocks_of, cells_in}}
 use Rattle.core_pages.proofs.Walks.{added-on, follows, left_of, walk-none, walk-on}
 use Rattle.core_pages.proofs.group.group_of.Goals as goal

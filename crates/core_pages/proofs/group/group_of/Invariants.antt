@@ -2,7 +2,7 @@ use Rattle.std.proofs.Common.{◌≡◌, ◌+◌, ◌*◌, ◌≤◌, ◌++◌, 
 use Rattle.std.specs.List.{flat_map}
 use Rattle.dc_node.specs.Block.{size}
 use Rattle.list_words.specs.Counts.{total}
-use Rattle.tree_shape.specs.PageLines.{group}
+use Rattle.core_image.specs.tree_shape.specs.PageLines.{group}
 use Rattle.core_pages.specs.Looks.{blocks_of, cells_in}
 use Rattle.core_pages.proofs.Walks.{left_of}
 use Rattle.core_pages.proofs.group.group_of.Given as goal

@@ -1,8 +1,8 @@
 use Rattle.std.proofs.{Common.{List, sym, ◌∙◌, ap, subst, ◌+◌, length, take, arith}, lemmas.List.take_all, lemmas.Option.{get_or_from_slice_get, slice_get_within}}
 use Rattle.std.specs.List.{AllZip}
-use Rattle.link_descent.proofs.Items.{AllZip-more}
+use Rattle.core_image.specs.link_descent.proofs.Items.{AllZip-more}
 use Rattle.row_ledger.specs.declared.page.ShardLine.{ShardLine}
-use Rattle.volap_cell.specs.Cells.{CellValue}
+use Rattle.core_image.specs.volap_cell.specs.Cells.{CellValue}
 use Rattle.core_pages.specs.{Looks.{StateValue, cells_in, gate_in}, Shards.{CanLead, HasLine, IsLineOf, frontier_in}}
 use Rattle.core_pages.proofs.StateLines.{can-lead, gate-at, lines-in}
 use Rattle.core_pages.proofs.shards.shards_page.Goals as goal

@@ -1,7 +1,7 @@
 use Rattle.std.proofs.Common.{List, ◌≡◌, ◌-◌, ◌+◌, ◌++◌, [], ◌∷◌, ap, ◌∙◌, eqb, arith}
 use Rattle.std.specs.List.{flat_map}
 use Rattle.dc_node.specs.declared.entry.Entry.{Entry}
-use Rattle.tree_shape.specs.PageLines.{group, group_line, lines}
+use Rattle.core_image.specs.tree_shape.specs.PageLines.{group, group_line, lines}
 use Rattle.core_pages.specs.Looks.{StateValue, blocks_of, cells_in}
 use Rattle.core_pages.proofs.Walks.{lines-deeper}
 use Rattle.core_pages.proofs.walk.+group.Goals as goal

@@ -1,6 +1,6 @@
 use Rattle.std.proofs.Common.{◌≡◌, ◌+◌, ◌*◌, ◌++◌, drop}
 use Rattle.std.specs.List.{flat_map}
-use Rattle.tree_shape.specs.PageLines.{lines}
+use Rattle.core_image.specs.tree_shape.specs.PageLines.{lines}
 use Rattle.core_pages.specs.Looks.{blocks_of, cells_in}
 use Rattle.core_pages.proofs.walk.+group.Given as goal
 

@@ -1,7 +1,7 @@
 use Rattle.std.proofs.Common.{◌-◌, ◌++◌, ◌∙◌}
 use Rattle.dc_node.specs.declared.entry.Entry.{Entry}
 use Rattle.row_ledger.specs.declared.page.TreePage.{TreePage}
-use Rattle.tree_shape.specs.PageLines.{lines}
+use Rattle.core_image.specs.tree_shape.specs.PageLines.{lines}
 use Rattle.core_pages.specs.Looks.{StateValue, blocks_of, cells_in, gate_in}
 use Rattle.core_pages.proofs.Pages.{shows-tree}
 use Rattle.core_pages.proofs.walk.page_of.Goals as goal

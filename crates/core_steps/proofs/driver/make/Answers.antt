@@ -2,7 +2,7 @@ use Rattle.std.proofs.{Common.{◌∙◌, ℕ, ◌<◌, Some, ap, refl, subst, s
 use Rattle.std.specs.Vec.{with_item}
 use Rattle.core_steps.specs.{Places.{row_of}}
 use Rattle.core_steps.proofs.{Arms.{back-one, held-one, one-within}, Held.{actor-is, actor-there, asked, here}, Made.made}
-use Rattle.volap_cell.specs.{declared.state.State.State}
+use Rattle.core_shard.specs.volap_cell.specs.{declared.state.State.State}
 use Rattle.core_steps.proofs.driver.make.Goals as goal
 
 pub index_mut-requires : goal.index_mut-requires

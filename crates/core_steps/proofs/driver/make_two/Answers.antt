@@ -2,7 +2,7 @@ use Rattle.std.proofs.{Common.{◌∙◌, ℕ, ◌<◌, List, Option, Some, ap, 
 use Rattle.std.specs.Vec.{with_item, with_items}
 use Rattle.core_steps.specs.{Places.{others_held}, declared.step.Others.Others}
 use Rattle.core_steps.proofs.{Arms.{back-two, first-lent, held-two, second-lent, two-apart}, Held.{actor-is, actor-there, asked, here}, Made.made}
-use Rattle.volap_cell.specs.{declared.cell.Cell.Cell, declared.state.State.State}
+use Rattle.core_shard.specs.volap_cell.specs.{declared.cell.Cell.Cell, declared.state.State.State}
 use Rattle.core_steps.proofs.driver.make_two.Goals as goal
 
 pub index_mut-requires : goal.index_mut-requires

@@ -1,6 +1,6 @@
 use Rattle.std.proofs.Common.{[], ◌∷◌, None, get_or}
 use Rattle.core_steps.proofs.Five.{can-last-two, can-others, lifted-five, lifted-more, lifted-none}
-use Rattle.volap_cell.proofs.Cells.Lifting.{lift-some}
+use Rattle.core_shard.specs.volap_cell.proofs.Cells.Lifting.{lift-some}
 use Rattle.core_steps.proofs.moving.lift.Goals as goal
 
 pub lift_at-requires-4 : goal.lift_at-requires-4

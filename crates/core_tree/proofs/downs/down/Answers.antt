@@ -1,6 +1,6 @@
 use Rattle.std.proofs.Common.{◌∙◌, ◌≡◌, List, map, option_map, refl, ap, sym, subst}
 use Rattle.dc_node.specs.{Block.{entries_in, is_full}, declared.block.Block.Block, declared.entry.Entry.Entry}
-use Rattle.link_descent.specs.Pick.{IsPick}
+use Rattle.volap_cell.specs.link_descent.specs.Pick.{IsPick}
 use Rattle.volap_cell.specs.{Cells.{cell_of, block_in}, TreeKinds.{HasRow, blocks_of}, Values.{actor_of, errand_of, task_of}, World.held_if, declared.cell.Cell.Cell, declared.errand.Way.TheVariants.Carried}
 use Rattle.core_tree.specs.Descent.{AreForNew, CanStep, blocks_if, two_if}
 use Rattle.core_tree.proofs.{Calls.Behind.{tail-are, held-blocks, held-down, new-down, some-mapped}, Calls.GoesDown.{given-down, down-makes, picked-for}, Rows.Carriers.{carried-way, must-at}}

@@ -1,6 +1,6 @@
 use Rattle.std.proofs.Common.{◌≡◌, ◌+◌, ◌<◌, ◌^◌, ◌++◌, ◌∙◌, false, List, All, Some, option_map, refl, sym, ap, subst, arith}
 use Rattle.dc_node.specs.{Block.{is_full, entries_in, IsBodyOf}, Summary.row_count, declared.block.Block.Block, declared.entry.Entry.Entry}
-use Rattle.link_descent.specs.{Divide.together, Pass.passed}
+use Rattle.volap_cell.specs.link_descent.specs.{Divide.together, Pass.passed}
 use Rattle.volap_cell.specs.{Cells.cell_of, NewBlocks.WentDown}
 use Rattle.core_tree.specs.Descent.{block_if, blocks_if}
 use Rattle.core_tree.proofs.Calls.GoesDown.{if-at}

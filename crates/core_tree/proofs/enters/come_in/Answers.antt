@@ -1,6 +1,6 @@
 use Rattle.std.proofs.Common.{◌≡◌, ◌∙◌, false, option_map, refl, sym, arith}
 use Rattle.dc_node.specs.Block.{is_full}
-use Rattle.link_descent.specs.Pass.{passed}
+use Rattle.volap_cell.specs.link_descent.specs.Pass.{passed}
 use Rattle.volap_cell.specs.Cells.{cell_of}
 use Rattle.core_tree.specs.Descent.{blocks_if}
 use Rattle.core_tree.proofs.enters.come_in.Goals as goal

@@ -1,6 +1,6 @@
 use Rattle.std.proofs.Common.{◌∙◌, ◌≡◌, List, Some, option_map, refl, ap, sym, subst}
 use Rattle.dc_node.specs.{Block.is_full, declared.block.Block.Block}
-use Rattle.shard_store.specs.declared.gate.Gate.{Gate}
+use Rattle.volap_cell.specs.shard_store.specs.declared.gate.Gate.{Gate}
 use Rattle.volap_cell.specs.{Cells.{GateCell, cell_of, block_in}, TreeKinds.{HasRow, blocks_of}, Values.{ErrandValue, OfRow, actor_of, errand_of, task_of}, declared.cell.Cell.Cell, declared.errand.RowErrand.RowErrand}
 use Rattle.core_tree.specs.Descent.{AreForNew, CanComeIn, blocks_if, two_if}
 use Rattle.core_tree.proofs.{Calls.Behind.{tail-are, held-blocks, some-mapped}, Calls.GoesIn.{given-in, enter-makes, new-in, held-in}}

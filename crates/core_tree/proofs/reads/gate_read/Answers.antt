@@ -1,5 +1,5 @@
 use Rattle.std.proofs.Common.{◌≡◌, ◌∙◌, option_map, refl, sym, ap, subst, IsSome, Some}
-use Rattle.shard_store.specs.declared.gate.Gate.{Gate}
+use Rattle.volap_cell.specs.shard_store.specs.declared.gate.Gate.{Gate}
 use Rattle.volap_cell.specs.{Cells.{GateCell, cell_of, gate_shard}, Lending.with_gate, Values.{actor_of, errand_of}}
 use Rattle.volap_cell.proofs.Outcomes.{on-ok, on-err}
 use Rattle.core_tree.specs.ReadDue.{IsAtGate}

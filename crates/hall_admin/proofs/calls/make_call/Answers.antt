@@ -2,7 +2,7 @@ use Rattle.std.proofs.Common.{refl, subst}
 use Rattle.hall_admin.proofs.{Keeping.{admin-can, call-nothing, caller-stands, refused-later, stays-admin, stays-before, stays-unmade}, OpenJobs.job-begun}
 use Rattle.actor_run.specs.Called.{NotCalled}
 use Rattle.hall_admin.specs.Callers.{StaysCaller}
-use Rattle.volap_cell.specs.declared.role.Role.TheVariants.{Admin}
+use Rattle.job_steps.specs.volap_cell.specs.declared.role.Role.TheVariants.{Admin}
 use Rattle.hall_admin.proofs.calls.make_call.Goals as goal
 
 pub begin_call-requires : goal.begin_call-requires

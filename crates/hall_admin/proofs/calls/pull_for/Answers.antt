@@ -3,7 +3,7 @@ use Rattle.hall_admin.proofs.Keeping.{caller-stands, puller-can, refused-later, 
 use Rattle.row_ledger.specs.declared.settings.{Call.TheVariants.Sync, How.TheVariants.{Fine, NoMemory}}
 use Rattle.actor_run.specs.Called.{NotCalled}
 use Rattle.hall_admin.specs.Callers.{StaysCaller}
-use Rattle.volap_cell.specs.declared.role.Role.TheVariants.{Puller}
+use Rattle.job_steps.specs.volap_cell.specs.declared.role.Role.TheVariants.{Puller}
 use Rattle.hall_admin.proofs.calls.pull_for.Goals as goal
 
 pub sync-requires : goal.sync-requires

@@ -1,7 +1,7 @@
 use Rattle.std.proofs.Common.{ℕ}
 use Rattle.hall_admin.specs.Jobs.{IsJobOpen}
 use Rattle.row_ledger.specs.declared.settings.Call.{Call}
-use Rattle.seat_steps.specs.declared.floor.Player.{Player}
+use Rattle.job_steps.specs.seat_steps.specs.declared.floor.Player.{Player}
 use Rattle.hall_admin.proofs.driving.drive.Given as goal
 
 abbrev pub invariant-loop : goal.invariant-loop

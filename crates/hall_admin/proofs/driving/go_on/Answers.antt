@@ -1,4 +1,4 @@
-use Rattle.call_steps.proofs.OpenCalls.{call-done}
+use Rattle.actor_run.specs.call_steps.proofs.OpenCalls.{call-done}
 use Rattle.hall_admin.proofs.OpenJobs.{action-done, left-on, may-end, may-leave, passed-on, step-on, still-open}
 use Rattle.hall_admin.proofs.driving.go_on.Goals as goal
 

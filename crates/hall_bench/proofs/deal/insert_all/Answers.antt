@@ -4,9 +4,9 @@ use denote.Builtin.{usize, u64}
 use denote.Param.Send.{IsSend, IsSync, param_send, sendable, shr_send, shr_slice_send}
 use denote.Struct.Tuple.{Tuple}
 use Rattle.std.proofs.alloc.Global.TheSendSync as global
-use Rattle.actor_run.proofs.Sent.{pass_send}
-use Rattle.actor_run.proofs.hall.Hall.TheSendSync as hall
-use Rattle.actor_run.specs.contracts.passes.Pass as pass
+use Rattle.hall_calls.specs.actor_run.proofs.Sent.{pass_send}
+use Rattle.hall_calls.specs.actor_run.proofs.hall.Hall.TheSendSync as hall
+use Rattle.hall_calls.specs.actor_run.specs.contracts.passes.Pass as pass
 use Rattle.hall_calls.proofs.Captures.{all-more, all-none, captured}
 use Rattle.script_form.proofs.script.Command.TheSendSync as command
 use Rattle.hall_bench.proofs.deal.insert_all.Goals as goal

@@ -2,8 +2,8 @@ use mir.Syntax.{named}
 use denote.Builtin.{usize}
 use denote.Param.Send.{IsSync, sendable, shr_send, shr_slice_send}
 use Rattle.std.proofs.alloc.Global.TheSendSync as global
-use Rattle.actor_run.proofs.Sent.{pass_send}
-use Rattle.actor_run.proofs.hall.Hall.TheSendSync as hall
+use Rattle.hall_calls.specs.actor_run.proofs.Sent.{pass_send}
+use Rattle.hall_calls.specs.actor_run.proofs.hall.Hall.TheSendSync as hall
 use Rattle.hall_calls.proofs.Captures.{all-more, all-none, captured}
 use Rattle.script_form.proofs.script.Command.TheSendSync as command
 use Rattle.hall_bench.proofs.deal.insert_both.Goals as goal

@@ -1,7 +1,7 @@
 use Rattle.std.proofs.Common.{◌∙◌, refl, subst, sym, arith}
 use Rattle.hall_hands.proofs.Rounding.{gone-none, idle-still, nobody-next, served-on, somebody}
 use Rattle.hand_steps.specs.declared.hands.Found.TheVariants as found
-use Rattle.seat_steps.specs.{Floors.Stands, declared.floor.Floor.Floor}
+use Rattle.hand_steps.specs.seat_steps.specs.{Floors.Stands, declared.floor.Floor.Floor}
 use Rattle.hall_hands.proofs.rounds.go_round.Goals as goal
 use Rattle.hall_hands.proofs.rounds.go_round.Goals.{in-Part, in-Nothing, in-NoSession}
 

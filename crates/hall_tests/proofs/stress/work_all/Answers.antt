@@ -3,9 +3,9 @@ use mathlib.Core.List.{[], ◌∷◌}
 use denote.Param.Send.{IsSend, param_send, sendable, shr_send}
 use denote.Struct.Tuple.{Tuple}
 use Rattle.std.proofs.alloc.Global.TheSendSync as global
-use Rattle.actor_run.proofs.Sent.{pass_send}
-use Rattle.actor_run.proofs.hall.Hall.TheSendSync as hall
-use Rattle.actor_run.specs.contracts.passes.Pass as pass
+use Rattle.hall_calls.specs.actor_run.proofs.Sent.{pass_send}
+use Rattle.hall_calls.specs.actor_run.proofs.hall.Hall.TheSendSync as hall
+use Rattle.hall_calls.specs.actor_run.specs.contracts.passes.Pass as pass
 use Rattle.hall_calls.proofs.Captures.{all-more, all-none, captured}
 use Rattle.hall_tests.proofs.board.Board.TheSendSync as board
 use Rattle.hall_tests.proofs.plan.Plan.TheSendSync as plan

@@ -1,8 +1,8 @@
 use mir.Syntax.{named}
 use denote.Param.Send.{sendable, shr_send}
 use Rattle.std.proofs.alloc.Global.TheSendSync as global
-use Rattle.actor_run.proofs.Sent.{pass_send}
-use Rattle.actor_run.proofs.hall.Hall.TheSendSync as hall
+use Rattle.hall_calls.specs.actor_run.proofs.Sent.{pass_send}
+use Rattle.hall_calls.specs.actor_run.proofs.hall.Hall.TheSendSync as hall
 use Rattle.hall_calls.proofs.Captures.{all-more, all-none, captured}
 use Rattle.hall_tests.proofs.board.Board.TheSendSync as board
 use Rattle.hall_tests.proofs.plan.Plan.TheSendSync as plan

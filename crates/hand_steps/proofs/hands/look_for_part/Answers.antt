@@ -1,11 +1,11 @@
 use Rattle.std.proofs.Common.{◌≡◌, ◌∙◌, [], refl, sym, ap, subst, arith}
-use Rattle.core_due.specs.Look.{setting_by}
-use Rattle.core_steps.specs.{Parts.{part_asks, part_places}, declared.parts.PartStep.TheVariants.TakePart}
+use Rattle.session_steps.specs.core_due.specs.Look.{setting_by}
+use Rattle.session_steps.specs.core_steps.specs.{Parts.{part_asks, part_places}, declared.parts.PartStep.TheVariants.TakePart}
 use Rattle.hand_steps.proofs.AtDesks.{desk-there, gave-back, part-waits, take-due, was-none}
 use Rattle.hand_steps.specs.Hands.{IsIdleHand}
-use Rattle.seat_steps.proofs.{Since.{looked, unchanged}, WithLedger.first-there}
-use Rattle.seat_steps.specs.{Booked.IsDue, Takes.GaveAll, declared.floor.Player.Player}
-use Rattle.volap_cell.specs.{Cells.{cell_of, desk_in}, ImageKinds.IsFree, Values.{ActorValue, actor_of}}
+use Rattle.session_steps.specs.seat_steps.proofs.{Since.{looked, unchanged}, WithLedger.first-there}
+use Rattle.session_steps.specs.seat_steps.specs.{Booked.IsDue, Takes.GaveAll, declared.floor.Player.Player}
+use Rattle.session_steps.specs.volap_cell.specs.{Cells.{cell_of, desk_in}, ImageKinds.IsFree, Values.{ActorValue, actor_of}}
 use Rattle.hand_steps.proofs.hands.look_for_part.Goals as goal
 
 pub worker_of-worker-requires : goal.worker_of-worker-requires

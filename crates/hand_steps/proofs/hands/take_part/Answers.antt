@@ -1,13 +1,13 @@
 use Rattle.std.proofs.Common.{◌∙◌, ℕ, List, Option, ap, arith, refl, subst, sym}
-use Rattle.core_steps.specs.{Parts.part_places, declared.parts.PartStep.TheVariants.TakePart}
+use Rattle.session_steps.specs.core_steps.specs.{Parts.part_places, declared.parts.PartStep.TheVariants.TakePart}
 use Rattle.hand_steps.proofs.AtDesks.{take-makes}
-use Rattle.part_steps.proofs.Keeping.{take-kept}
+use Rattle.session_steps.specs.part_steps.proofs.Keeping.{take-kept}
 use Rattle.row_ledger.specs.declared.event.Event.{Event}
-use Rattle.seat_steps.proofs.{HeldLedger.seen-same, Since.extends-on, WithLedger.{due-asked, due-at, few-held, ledger-off}}
+use Rattle.session_steps.specs.seat_steps.proofs.{HeldLedger.seen-same, Since.extends-on, WithLedger.{due-asked, due-at, few-held, ledger-off}}
 use Rattle.turn_table.proofs.Numbered.{starts_self}
 use Rattle.turn_table.specs.Numbered.{Extends, numbers_of}
-use Rattle.volap_cell.specs.Values.{ActorValue, actor_of}
-use Rattle.volap_turns.proofs.Turned.{when-ok}
+use Rattle.session_steps.specs.volap_cell.specs.Values.{ActorValue, actor_of}
+use Rattle.session_steps.specs.volap_turns.proofs.Turned.{when-ok}
 use Rattle.hand_steps.proofs.hands.take_part.Goals as goal
 
 pub make-requires-clause-few : goal.make-requires-clause-few

@@ -1,7 +1,7 @@
 use Rattle.std.proofs.Common.{◌∙◌, ap}
 use Rattle.hand_steps.proofs.Served.{served-none, served-part}
 use Rattle.hand_steps.specs.declared.hands.Found.TheVariants.{Nothing, NoSession}
-use Rattle.volap_cell.specs.Values.{ActorValue}
+use Rattle.session_steps.specs.volap_cell.specs.Values.{ActorValue}
 use Rattle.hand_steps.proofs.serves.serve_desk.Goals as goal
 
 pub do_part-requires-clause-stands : goal.do_part-requires-clause-stands

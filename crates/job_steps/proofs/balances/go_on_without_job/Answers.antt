@@ -1,7 +1,7 @@
 use Rattle.std.proofs.Common.{◌∙◌, Option, IsSome, refl, sym, ap, subst}
 use Rattle.job_steps.proofs.{Arms.still-before, Dues.{balance-ends, open-at}}
 use Rattle.row_ledger.specs.declared.settings.{Decline.TheVariants.Unknown, How.How, How.TheVariants.Declined}
-use Rattle.volap_cell.specs.{Commands.{EndsJob, MayNoteEnd}, ImageKinds.doing, Values.{JobValue, actor_of}, declared.command.{Command.Command, Work.Work}}
+use Rattle.seat_steps.specs.volap_cell.specs.{Commands.{EndsJob, MayNoteEnd}, ImageKinds.doing, Values.{JobValue, actor_of}, declared.command.{Command.Command, Work.Work}}
 use Rattle.job_steps.proofs.balances.go_on_without_job.Goals as goal
 
 pub there-requires : goal.there-requires

@@ -1,11 +1,11 @@
 use Rattle.std.proofs.Common.{◌∙◌, ℕ, List, [], ◌∷◌, ◌++◌, Option, Some, refl, sym, ap, subst, arith}
-use Rattle.core_steps.specs.declared.jobs.JobStep.TheVariants as job
+use Rattle.seat_steps.specs.core_steps.specs.declared.jobs.JobStep.TheVariants as job
 use Rattle.job_steps.proofs.{Arms.{held-at, leads-still, next-second, order-second, room-second}, Dues.{IsOpenAt, open-at, read-due}, Made.{goes-since, opened-since}}
 use Rattle.job_steps.specs.Dues.{IsToRead}
 use Rattle.seat_steps.proofs.Since.{unchanged, unchanged-on}
 use Rattle.seat_steps.specs.declared.looks.Lead.TheVariants.{Gate}
-use Rattle.volap_cell.specs.Values.{ActorValue}
-use Rattle.volap_turns.proofs.Turned.{when-ok}
+use Rattle.seat_steps.specs.volap_cell.specs.Values.{ActorValue}
+use Rattle.seat_steps.specs.volap_turns.proofs.Turned.{when-ok}
 use Rattle.job_steps.proofs.balances.read_at.Goals as goal
 
 pub take-requires-clause-cell : goal.take-requires-clause-cell

@@ -3,7 +3,7 @@ use Rattle.job_steps.proofs.{Arms.gave-back, Dues.{read-table, open-at}, Made.at
 use Rattle.job_steps.specs.Dues.{IsToRead, LeadsTo}
 use Rattle.seat_steps.proofs.{Since.{looked, unchanged}, WithLedger.first-there}
 use Rattle.seat_steps.specs.{Floors.IsSeated, declared.{floor.Player.Player, looks.Lead.TheVariants.Gate}}
-use Rattle.volap_cell.specs.Values.{ActorValue}
+use Rattle.seat_steps.specs.volap_cell.specs.Values.{ActorValue}
 use Rattle.job_steps.proofs.balances.read_load.Goals as goal
 
 pub take_first-requires-clause-no_part : goal.take_first-requires-clause-no_part

@@ -1,6 +1,6 @@
 use Rattle.std.proofs.Common.{ℕ, Option, subst}
 use Rattle.job_steps.specs.Dues.{IsToFinish}
-use Rattle.volap_cell.specs.Values.{actor_of}
+use Rattle.seat_steps.specs.volap_cell.specs.Values.{actor_of}
 use Rattle.job_steps.proofs.ends.finish.Goals as goal
 
 pub finish_move-requires-clause-finishes : goal.finish_move-requires-clause-finishes

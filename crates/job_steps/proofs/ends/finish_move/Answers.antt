@@ -1,9 +1,9 @@
 use Rattle.std.proofs.Common.{◌∙◌, ◌-◌, List, Some, length, slice_get, refl, sym, ap, subst}
 use Rattle.cell_stock.specs.declared.purse.Spare.{Spare}
-use Rattle.core_due.proofs.LastItems.{last-at}
+use Rattle.seat_steps.specs.core_due.proofs.LastItems.{last-at}
 use Rattle.job_steps.proofs.Dues.{IsOpenAt, move-instead, move-step-due, open-at, stay-due}
 use Rattle.job_steps.specs.Dues.{IsToFinish}
-use Rattle.volap_cell.specs.Values.{ActorValue}
+use Rattle.seat_steps.specs.volap_cell.specs.Values.{ActorValue}
 use Rattle.job_steps.proofs.ends.finish_move.Goals as goal
 
 pub stay-requires-clause-due : goal.stay-requires-clause-due

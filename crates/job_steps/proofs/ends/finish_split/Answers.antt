@@ -1,10 +1,10 @@
 use Rattle.std.proofs.Common.{◌≡◌, ◌∙◌, Some, None, refl, sym, ap, subst}
-use Rattle.core_due.specs.Spares.{last_spare, spare_before}
+use Rattle.seat_steps.specs.core_due.specs.Spares.{last_spare, spare_before}
 use Rattle.job_steps.proofs.Dues.{IsOpenAt, open-at, split-due, split-instead, splits}
 use Rattle.job_steps.specs.{Dues.IsToFinish, Jobs.{CameTo, HasJobOpen}}
 use Rattle.list_words.proofs.Elements.{Some-same}
 use Rattle.seat_steps.specs.{Floors.Stands, declared.floor.Player.Player}
-use Rattle.volap_cell.specs.Values.{ActorValue, JobValue, actor_of}
+use Rattle.seat_steps.specs.volap_cell.specs.Values.{ActorValue, JobValue, actor_of}
 use Rattle.job_steps.proofs.ends.finish_split.Goals as goal
 
 pub split-requires-clause-stands : goal.split-requires-clause-stands

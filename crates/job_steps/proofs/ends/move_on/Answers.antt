@@ -1,9 +1,9 @@
 use Rattle.std.proofs.Common.{◌∙◌, [], ◌∷◌, refl, arith}
-use Rattle.core_steps.specs.Jobs.{job_places}
-use Rattle.core_steps.specs.declared.jobs.JobStep.TheVariants as job
+use Rattle.seat_steps.specs.core_steps.specs.Jobs.{job_places}
+use Rattle.seat_steps.specs.core_steps.specs.declared.jobs.JobStep.TheVariants as job
 use Rattle.job_steps.proofs.{Cells.takes-on, Made.opened-since, Rest.{all-apart, all-at, all-within, behind-two, first-may, first-order, rest-may}}
 use Rattle.seat_steps.proofs.Since.{unchanged}
-use Rattle.volap_cell.specs.{Setting.{ledger_cell, registry_cell, stock_cell}}
+use Rattle.seat_steps.specs.volap_cell.specs.{Setting.{ledger_cell, registry_cell, stock_cell}}
 use Rattle.job_steps.proofs.ends.move_on.Goals as goal
 
 pub take_two-requires-clause-may : goal.take_two-requires-clause-may

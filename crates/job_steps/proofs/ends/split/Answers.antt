@@ -1,9 +1,9 @@
 use Rattle.std.proofs.Common.{◌∙◌, [], ◌∷◌, refl, sym, ap, arith}
-use Rattle.core_steps.specs.Jobs.{job_places}
-use Rattle.core_steps.specs.declared.jobs.JobStep.TheVariants as job
+use Rattle.seat_steps.specs.core_steps.specs.Jobs.{job_places}
+use Rattle.seat_steps.specs.core_steps.specs.declared.jobs.JobStep.TheVariants as job
 use Rattle.job_steps.proofs.{Cells.takes-on, Made.{first-within, opened-since}, Rest.{all-apart, all-at, all-within, behind-three, first-some, rest-may}}
 use Rattle.seat_steps.proofs.Since.{unchanged}
-use Rattle.volap_cell.specs.{Setting.{ledger_cell, registry_cell, stock_cell}, Values.{ActorValue}}
+use Rattle.seat_steps.specs.volap_cell.specs.{Setting.{ledger_cell, registry_cell, stock_cell}, Values.{ActorValue}}
 use Rattle.job_steps.proofs.ends.split.Goals as goal
 
 pub take_first-requires-clause-no_part : goal.take_first-requires-clause-no_part

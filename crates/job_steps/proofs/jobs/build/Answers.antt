@@ -1,10 +1,10 @@
 use Rattle.std.proofs.Common.{◌∷◌, [], Some, refl, sym, subst}
-use Rattle.core_steps.specs.declared.jobs.JobStep.TheVariants as job
+use Rattle.seat_steps.specs.core_steps.specs.declared.jobs.JobStep.TheVariants as job
 use Rattle.job_steps.proofs.{Arms.held-at, Dues.{IsOpenAt, build-step-due, open-at}, Made.{first-within, goes-since, opened-since}}
 use Rattle.job_steps.specs.Dues.{IsToBuild}
 use Rattle.seat_steps.proofs.Since.{unchanged}
-use Rattle.volap_cell.specs.Values.{ActorValue}
-use Rattle.volap_turns.proofs.Turned.{when-ok}
+use Rattle.seat_steps.specs.volap_cell.specs.Values.{ActorValue}
+use Rattle.seat_steps.specs.volap_turns.proofs.Turned.{when-ok}
 use Rattle.job_steps.proofs.jobs.build.Goals as goal
 
 pub take_first-requires-clause-no_part : goal.take_first-requires-clause-no_part

@@ -1,9 +1,9 @@
 use Rattle.std.proofs.Common.{◌∙◌, ◌∷◌, [], Some, refl, sym, subst}
-use Rattle.core_steps.specs.declared.jobs.JobStep.TheVariants as job
+use Rattle.seat_steps.specs.core_steps.specs.declared.jobs.JobStep.TheVariants as job
 use Rattle.job_steps.proofs.{Arms.held-at, Dues.{IsOpenAt, block-due, collect-instead, open-at}, Made.{first-within, opened-since}}
 use Rattle.job_steps.specs.Dues.{IsToCollect}
 use Rattle.seat_steps.proofs.Since.{unchanged}
-use Rattle.volap_cell.specs.Values.{ActorValue}
+use Rattle.seat_steps.specs.volap_cell.specs.Values.{ActorValue}
 use Rattle.job_steps.proofs.jobs.collect.Goals as goal
 
 pub take_first-requires-clause-no_part : goal.take_first-requires-clause-no_part

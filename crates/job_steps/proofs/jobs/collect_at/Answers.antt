@@ -1,11 +1,11 @@
 use Rattle.std.proofs.Common.{◌≡◌, ◌∙◌, ◌∷◌, [], ℕ, None, Some, Bool, true, false, refl, sym, ap, subst}
-use Rattle.core_due.specs.Works.{collect_by}
-use Rattle.core_steps.specs.{Jobs.job_places, Places.numbers, declared.jobs.JobStep.JobStep}
+use Rattle.seat_steps.specs.core_due.specs.Works.{collect_by}
+use Rattle.seat_steps.specs.core_steps.specs.{Jobs.job_places, Places.numbers, declared.jobs.JobStep.JobStep}
 use Rattle.job_steps.proofs.{Arms.held-at, Dues.{IsOpenAt, at-gate-due, collect-instead, gate-in, open-at}, Made.opened-since}
 use Rattle.job_steps.specs.Dues.{IsJobDue, IsQuiet, IsToCollect}
 use Rattle.seat_steps.proofs.{Around.around, Since.{looked, unchanged}, WithLedger.first-there}
 use Rattle.seat_steps.specs.{Floors.IsSeated, declared.floor.Player.Player}
-use Rattle.volap_cell.specs.Values.{ActorValue, Collects}
+use Rattle.seat_steps.specs.volap_cell.specs.Values.{ActorValue, Collects}
 use Rattle.job_steps.proofs.jobs.collect_at.Goals as goal
 
 pub take_first-requires-clause-no_part : goal.take_first-requires-clause-no_part

@@ -1,11 +1,11 @@
 use Rattle.std.proofs.Common.{◌∙◌, [], ◌∷◌, Some, refl, sym, ap, subst}
-use Rattle.core_steps.specs.declared.jobs.JobStep.TheVariants as job
+use Rattle.seat_steps.specs.core_steps.specs.declared.jobs.JobStep.TheVariants as job
 use Rattle.job_steps.proofs.{Arms.{gave-back, held-at}, Dues.{IsOpenAt, drain-due, gate-in, open-at}, Made.{goes-since, opened-since}}
 use Rattle.job_steps.specs.Dues.{IsJobDue, IsToDrain}
 use Rattle.seat_steps.proofs.{Around.around, Since.{looked, unchanged}, WithLedger.first-there}
 use Rattle.seat_steps.specs.{Floors.IsSeated, declared.floor.Player.Player}
-use Rattle.volap_cell.specs.Values.{ActorValue, IsFrozen}
-use Rattle.volap_turns.proofs.Turned.{when-ok}
+use Rattle.seat_steps.specs.volap_cell.specs.Values.{ActorValue, IsFrozen}
+use Rattle.seat_steps.specs.volap_turns.proofs.Turned.{when-ok}
 use Rattle.job_steps.proofs.jobs.drain.Goals as goal
 
 pub take_first-requires-clause-no_part : goal.take_first-requires-clause-no_part

@@ -1,13 +1,13 @@
 use Rattle.std.proofs.Common.{◌≡◌, ◌∙◌, ℕ, ◌<◌, List, [], ◌∷◌, ◌++◌, Option, Some, IsSome, refl, sym, ap, subst, arith}
 use mathlib.Core.Option.{none}
-use Rattle.core_steps.specs.declared.jobs.JobStep.TheVariants as job
+use Rattle.seat_steps.specs.core_steps.specs.declared.jobs.JobStep.TheVariants as job
 use Rattle.job_steps.proofs.{Arms.{held-at, leads-still, next-second, next-third, order-second, order-third, room-second, room-third, stop-came}, Dues.{IsOpenAt, freeze-due, open-at}, Made.{goes-since, opened-since}}
 use Rattle.job_steps.specs.{Dues.{IsToFreeze}, Jobs.CameTo, declared.steps.JobDid.JobDid}
 use Rattle.seat_steps.proofs.Since.{as-before, before-unchanged, unchanged, unchanged-on}
 use Rattle.seat_steps.specs.declared.looks.Lead.TheVariants.{Gate}
 use Rattle.turn_table.specs.{Numbered.value_of, Seat.cell_count}
-use Rattle.volap_cell.specs.{Commands.EndsStage, Setting.stock_cell, Values.{ActorValue, StageValue}, declared.command.Command.Command}
-use Rattle.core_image.specs.NotesDue.{MayBeLeft}
+use Rattle.seat_steps.specs.volap_cell.specs.{Commands.EndsStage, Setting.stock_cell, Values.{ActorValue, StageValue}, declared.command.Command.Command}
+use Rattle.seat_steps.specs.core_image.specs.NotesDue.{MayBeLeft}
 use Rattle.row_ledger.specs.declared.settings.How.TheVariants.{NoMemory}
 use Rattle.job_steps.proofs.jobs.freeze_at.Goals as goal
 

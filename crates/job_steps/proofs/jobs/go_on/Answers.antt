@@ -1,13 +1,13 @@
 use Rattle.std.proofs.Common.{◌≡◌, ◌∙◌, ℕ, [], Option, None, Some, IsSome, refl, sym, ap, subst}
 use Rattle.std.specs.Prelude.{option_map}
-use Rattle.core_due.specs.Look.{setting_by}
+use Rattle.seat_steps.specs.core_due.specs.Look.{setting_by}
 use Rattle.job_steps.proofs.Arms.{still-before, stop-came}
 use Rattle.job_steps.specs.{Dues.last_unbuilt, Jobs.CameTo, declared.steps.JobDid.JobDid}
-use Rattle.link_descent.specs.declared.entered.Fresh.{Fresh}
+use Rattle.seat_steps.specs.link_descent.specs.declared.entered.Fresh.{Fresh}
 use Rattle.list_words.proofs.Elements.{Some-same}
 use Rattle.row_ledger.specs.declared.settings.How.TheVariants.{Declined}
-use Rattle.core_image.specs.NotesDue.{MayBeLeft}
-use Rattle.volap_cell.specs.{Commands.EndsStage, Setting.map_cell, Values.{StageValue, building_of, collecting_of, job_of, stage_of}, declared.{command.Command.Command, job.Job.Job}}
+use Rattle.seat_steps.specs.core_image.specs.NotesDue.{MayBeLeft}
+use Rattle.seat_steps.specs.volap_cell.specs.{Commands.EndsStage, Setting.map_cell, Values.{StageValue, building_of, collecting_of, job_of, stage_of}, declared.{command.Command.Command, job.Job.Job}}
 use Rattle.job_steps.proofs.jobs.go_on.Goals as goal
 
 pub freeze-requires-clause-called : goal.freeze-requires-clause-called

@@ -1,7 +1,7 @@
 use Rattle.std.proofs.Common.{◌∙◌, Option, IsSome, refl, sym, ap, subst}
-use Rattle.core_due.specs.WorksReady.{AreBytes}
+use Rattle.seat_steps.specs.core_due.specs.WorksReady.{AreBytes}
 use Rattle.list_words.proofs.Elements.{Some-same}
-use Rattle.volap_cell.specs.declared.command.{Command.Command, Work.Work}
+use Rattle.seat_steps.specs.volap_cell.specs.declared.command.{Command.Command, Work.Work}
 use Rattle.job_steps.proofs.jobs.go_on_with_job.Goals as goal
 
 pub there-requires : goal.there-requires

@@ -1,7 +1,7 @@
 use Rattle.std.proofs.Common.{◌∙◌, refl, ap, arith}
 use Rattle.job_steps.proofs.Reusing.{reuse-actor, reuse-asked, reuse-few, reuse-kept}
 use Rattle.job_steps.specs.Reuses.{after_reuse}
-use Rattle.volap_turns.proofs.Turned.{when-ok}
+use Rattle.seat_steps.specs.volap_turns.proofs.Turned.{when-ok}
 use Rattle.job_steps.proofs.reuses.make_reuse.Goals as goal
 
 pub make-requires-clause-some : goal.make-requires-clause-some

@@ -3,7 +3,7 @@ use Rattle.job_steps.proofs.{Arms.gave-back, Reusing.{between-since, listed-with
 use Rattle.job_steps.specs.Reuses.{IsReleasedAt, last_gone}
 use Rattle.seat_steps.proofs.{Since.{looked, unchanged, unchanged-on}, WithLedger.first-there}
 use Rattle.seat_steps.specs.{Floors.IsSeated, Looks.Sees, declared.floor.Player.Player}
-use Rattle.volap_turns.specs.Rows.{IsThere}
+use Rattle.seat_steps.specs.volap_turns.specs.Rows.{IsThere}
 use Rattle.job_steps.proofs.reuses.reuse_at.Goals as goal
 
 pub take_first-requires-clause-no_part : goal.take_first-requires-clause-no_part

@@ -3,7 +3,7 @@ use Rattle.job_steps.proofs.{Arms.still-before, Reusing.{between-since, each-get
 use Rattle.job_steps.specs.Reuses.{WasInUse}
 use Rattle.list_words.specs.Counts.{Among}
 use Rattle.seat_steps.proofs.Since.{as-before, before-unchanged, unchanged-on}
-use Rattle.volap_cell.specs.Values.{ActorValue}
+use Rattle.seat_steps.specs.volap_cell.specs.Values.{ActorValue}
 use Rattle.job_steps.proofs.reuses.reuse_cell.Goals as goal
 
 pub loop-place-init : goal.loop-place-init

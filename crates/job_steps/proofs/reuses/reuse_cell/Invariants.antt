@@ -1,7 +1,7 @@
 use Rattle.std.specs.Prelude.{ℕ, ◌≡◌, ◌<◌, Some, slice_get}
 use Rattle.job_steps.specs.Reuses.{WasInUse}
 use Rattle.seat_steps.specs.Booked.{IsAsBefore}
-use Rattle.volap_cell.specs.Values.{actor_of}
+use Rattle.seat_steps.specs.volap_cell.specs.Values.{actor_of}
 use Rattle.job_steps.proofs.reuses.reuse_cell.Given as goal
 
 abbrev pub invariant-loop-place : goal.invariant-loop-place

@@ -1,10 +1,10 @@
 use Rattle.std.proofs.Common.{ℕ, ◌<◌, ◌≡◌, List, [], ◌∷◌, ◌++◌, None, Some, Option, refl, sym, ap, ◌∙◌, subst, arith}
 use mathlib.Core.Option.{none}
-use Rattle.core_steps.specs.declared.reuses.ReuseStep.TheVariants as reuse
+use Rattle.seat_steps.specs.core_steps.specs.declared.reuses.ReuseStep.TheVariants as reuse
 use Rattle.job_steps.proofs.{Arms.{order-second, room-second}, Reusing.{between-since, next-reused, released-still, reuse-at, reuse-due}}
 use Rattle.seat_steps.proofs.Since.{unchanged, unchanged-on}
 use Rattle.turn_table.specs.{Numbered.value_of, Seat.cell_count}
-use Rattle.volap_cell.specs.Setting.{stock_cell}
+use Rattle.seat_steps.specs.volap_cell.specs.Setting.{stock_cell}
 use Rattle.job_steps.proofs.reuses.reuse_gate.Goals as goal
 
 pub take-requires-clause-cell : goal.take-requires-clause-cell

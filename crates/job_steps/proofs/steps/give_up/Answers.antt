@@ -1,12 +1,12 @@
 use Rattle.std.proofs.Common.{◌∙◌, ℕ, ◌<◌, [], ◌∷◌, refl, sym, ap, subst, arith}
-use Rattle.core_steps.specs.{Places.two_at, declared.jobs.JobStep.TheVariants.Postpone}
+use Rattle.seat_steps.specs.core_steps.specs.{Places.two_at, declared.jobs.JobStep.TheVariants.Postpone}
 use Rattle.job_steps.proofs.Made.{first-within, gave-up, job-kept}
 use Rattle.job_steps.specs.{Jobs.CameTo, declared.steps.JobDid.JobDid}
 use Rattle.seat_steps.proofs.{Since.{unchanged, unchanged-on}, WithLedger.up-one}
 use Rattle.seat_steps.specs.Booked.{IsUpToLedger}
 use Rattle.turn_table.specs.Seat.{cell_count}
-use Rattle.volap_cell.specs.{Setting.ledger_cell, Values.ActorValue}
-use Rattle.volap_turns.proofs.Turned.{when-ok}
+use Rattle.seat_steps.specs.volap_cell.specs.{Setting.ledger_cell, Values.ActorValue}
+use Rattle.seat_steps.specs.volap_turns.proofs.Turned.{when-ok}
 use Rattle.job_steps.proofs.steps.give_up.Goals as goal
 
 pub take_first-requires-clause-cell : goal.take_first-requires-clause-cell

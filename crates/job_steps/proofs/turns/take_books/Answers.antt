@@ -3,7 +3,7 @@ use mathlib.Core.Option.{none}
 use Rattle.job_steps.proofs.Cells.{behind-one, may-rest, takes-on, takes-one}
 use Rattle.seat_steps.specs.Takes.{Takes}
 use Rattle.turn_table.specs.{Numbered.value_of, Seat.cell_count}
-use Rattle.volap_cell.specs.Setting.{ledger_cell, registry_cell, stock_cell}
+use Rattle.seat_steps.specs.volap_cell.specs.Setting.{ledger_cell, registry_cell, stock_cell}
 use Rattle.job_steps.proofs.turns.take_books.Goals as goal
 
 pub take-requires-clause-cell : goal.take-requires-clause-cell

@@ -1,6 +1,6 @@
 use Rattle.std.proofs.Common.{◌≡◌, ◌∙◌, List, [], ◌∷◌, Option, Some, None, get_or, set, refl, ap, sym, subst}
-use Rattle.volap_cell.specs.{Cells.{FreeCell, LedgerCell, cell_of}, Filling.cell_or, Setting.ledger_cell, World.{change, put}, declared.cell.Cell.Cell}
-use Rattle.volap_cell.specs.declared.cell.Cell.TheVariants as cell
+use Rattle.core_laws.specs.volap_cell.specs.{Cells.{FreeCell, LedgerCell, cell_of}, Filling.cell_or, Setting.ledger_cell, World.{change, put}, declared.cell.Cell.Cell}
+use Rattle.core_laws.specs.volap_cell.specs.declared.cell.Cell.TheVariants as cell
 use Rattle.seeded_run.specs.Phase.{held}
 use Rattle.olap_top.proofs.Handing.{cell-freed, cells-back, whole-left}
 use Rattle.olap_top.proofs.top.with_rest.Goals as goal

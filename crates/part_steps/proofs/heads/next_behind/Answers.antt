@@ -1,10 +1,10 @@
 use Rattle.std.proofs.Common.{◌∙◌, ℕ, Option, sym, ap, subst}
-use Rattle.core_due.specs.Rows.{next_behind, second_behind}
-use Rattle.core_steps.specs.Places.{number_at}
+use Rattle.seat_steps.specs.core_due.specs.Rows.{next_behind, second_behind}
+use Rattle.seat_steps.specs.core_steps.specs.Places.{number_at}
 use Rattle.list_words.specs.Counts.{Each}
 use Rattle.part_steps.proofs.heads.next_behind.Goals as goal
-use Rattle.volap_cell.specs.Cells.{CellValue, block_in}
-use Rattle.volap_turns.specs.Rows.{IsThere}
+use Rattle.seat_steps.specs.volap_cell.specs.Cells.{CellValue, block_in}
+use Rattle.seat_steps.specs.volap_turns.specs.Rows.{IsThere}
 
 pub next_at-requires-clause-held : goal.next_at-requires-clause-held
 next_at-requires-clause-held c = (subst (λ (o : Option ℕ). Each (IsThere c.args.player.now.seat.view.held) (number_at o)) c.in-Some.is c.requires.held).0

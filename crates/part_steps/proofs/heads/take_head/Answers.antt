@@ -1,11 +1,11 @@
 use Rattle.std.proofs.Common.{◌≡◌, ℕ, ◌≤◌, [], ◌∷◌, length, None, refl, sym, subst, arith}
-use Rattle.core_steps.specs.Places.{numbers}
+use Rattle.seat_steps.specs.core_steps.specs.Places.{numbers}
 use Rattle.part_steps.specs.{Heads.{AreUpToBlocks, InAll, TakesAll, head_at, places_behind}, declared.heads.Head.Head}
 use Rattle.seat_steps.specs.{Floors.IsSeated, declared.floor.Player.Player}
 use Rattle.part_steps.proofs.{BlocksTaken.{held-more, taken-there, takes-on, takes-one, up-still}, FullHeads.{AreLeft, full-is, full-left, room-is}}
 use Rattle.seat_steps.proofs.Around.{around}
 use Rattle.part_steps.proofs.heads.take_head.Goals as goal
-use Rattle.volap_turns.specs.Rows.{IsThere}
+use Rattle.seat_steps.specs.volap_turns.specs.Rows.{IsThere}
 
 pub take-requires-clause-cell : goal.take-requires-clause-cell
 take-requires-clause-cell g c = (let k = around c.args.floor.now c.args.player.now c.requires.seated in (c.requires.can k.0 k.1 k.2).within.0)

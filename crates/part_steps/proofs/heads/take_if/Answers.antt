@@ -1,5 +1,5 @@
 use Rattle.std.proofs.Common.{ℕ, Option, refl, sym, subst}
-use Rattle.core_steps.specs.Places.{number_at}
+use Rattle.seat_steps.specs.core_steps.specs.Places.{number_at}
 use Rattle.part_steps.specs.Heads.{CanTake, TakesAll}
 use Rattle.part_steps.proofs.BlocksTaken.{takes-none, takes-one}
 use Rattle.part_steps.proofs.heads.take_if.Goals as goal

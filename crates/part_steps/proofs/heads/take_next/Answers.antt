@@ -1,5 +1,5 @@
 use Rattle.std.proofs.Common.{ℕ, Option, sym, subst}
-use Rattle.core_steps.specs.Places.{number_at}
+use Rattle.seat_steps.specs.core_steps.specs.Places.{number_at}
 use Rattle.part_steps.specs.Heads.{AreUpToBlocks, CanTake, TakesAll}
 use Rattle.seat_steps.specs.{Floors.IsSeated, declared.floor.Player.Player}
 use Rattle.seat_steps.proofs.Around.{around}

@@ -1,13 +1,13 @@
 use Rattle.std.proofs.Common.{◌∙◌, ℕ, List, Option, sym, ap, subst}
-use Rattle.core_steps.specs.Trees.{tree_places}
-use Rattle.core_steps.specs.declared.trees.TreeStep.TheVariants.{PutInLeaf}
+use Rattle.seat_steps.specs.core_steps.specs.Trees.{tree_places}
+use Rattle.seat_steps.specs.core_steps.specs.declared.trees.TreeStep.TheVariants.{PutInLeaf}
 use Rattle.part_steps.specs.{Goings.WentOn, Parts.IsTreeSure, Rows.IsToDescend}
 use Rattle.seat_steps.specs.{Floors.{IsSeated, Stands}, declared.floor.Player.Player}
 use Rattle.part_steps.proofs.{PartsLed.{carried-there, goes-down, way-kept}, PartsMade.tree-at, PartsSure.put-sure}
 use Rattle.part_steps.proofs.parts.carry.Goals as goal
 use Rattle.turn_table.specs.Numbered.{numbers_of}
-use Rattle.volap_cell.specs.Values.{actor_of}
-use Rattle.volap_turns.specs.Rows.{AreAt}
+use Rattle.seat_steps.specs.volap_cell.specs.Values.{actor_of}
+use Rattle.seat_steps.specs.volap_turns.specs.Rows.{AreAt}
 
 pub is_leaf_at-requires-clause-held : goal.is_leaf_at-requires-clause-held
 is_leaf_at-requires-clause-held g c = carried-there c.args.floor.now c.args.player.now c.requires.stands.seated c.requires.carried.0 c.args.block c.requires.carried.1

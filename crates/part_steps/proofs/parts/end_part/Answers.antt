@@ -1,5 +1,5 @@
 use Rattle.std.proofs.Common.{◌∙◌, ℕ, List, [], ◌∷◌, ◌++◌, Option, IsSome, refl, sym, ap, subst}
-use Rattle.core_steps.specs.declared.parts.PartStep.TheVariants.{FinishPart, FinishPinned}
+use Rattle.seat_steps.specs.core_steps.specs.declared.parts.PartStep.TheVariants.{FinishPart, FinishPinned}
 use Rattle.part_steps.proofs.{PartsMade.part-first, PartsSure.{end-bare, finish-sure, pinned-sure}}
 use Rattle.part_steps.proofs.parts.end_part.Goals as goal
 use Rattle.turn_table.specs.Numbered.{numbers_of}

@@ -1,10 +1,10 @@
 use Rattle.std.proofs.Common.{◌∙◌, ℕ, List, [], ◌∷◌, ◌++◌, Option, Some, refl, sym, ap, subst, arith}
-use Rattle.core_steps.specs.declared.parts.PartStep.TheVariants.{FinishPinned}
+use Rattle.seat_steps.specs.core_steps.specs.declared.parts.PartStep.TheVariants.{FinishPinned}
 use Rattle.part_steps.specs.Parts.{CanEndPart}
 use Rattle.part_steps.proofs.{PartsMade.{part-second, went-taken}, PartsSure.part-on}
 use Rattle.part_steps.proofs.parts.end_pinned.Goals as goal
 use Rattle.turn_table.specs.Numbered.{numbers_of}
-use Rattle.volap_cell.specs.{Values.actor_of, declared.actor.Actor.Actor}
+use Rattle.seat_steps.specs.volap_cell.specs.{Values.actor_of, declared.actor.Actor.Actor}
 
 pub take_to_end-requires-clause-can : goal.take_to_end-requires-clause-can
 take_to_end-requires-clause-can g c =

@@ -1,14 +1,14 @@
 use Rattle.std.proofs.Common.{◌∙◌, ℕ, List, [], ◌∷◌, Option, Some, sym, ap, subst}
-use Rattle.core_steps.specs.Trees.{tree_places}
-use Rattle.core_steps.specs.declared.trees.TreeStep.TheVariants.{EnterQueue}
+use Rattle.seat_steps.specs.core_steps.specs.Trees.{tree_places}
+use Rattle.seat_steps.specs.core_steps.specs.declared.trees.TreeStep.TheVariants.{EnterQueue}
 use Rattle.part_steps.specs.{Parts.{CanEndPart, IsTreeSure}, Rows.IsToEnter}
 use Rattle.seat_steps.specs.declared.floor.Player.{Player}
 use Rattle.part_steps.specs.declared.parts.AtGate.TheVariants.{Enters}
 use Rattle.part_steps.proofs.{PartsLed.comes-in, PartsMade.tree-at, PartsSure.{for-ends, queue-sure}, Takings.told-held}
 use Rattle.part_steps.proofs.parts.enter_or_queue.Goals as goal
 use Rattle.turn_table.specs.Numbered.{numbers_of}
-use Rattle.volap_cell.specs.Values.{actor_of}
-use Rattle.volap_turns.specs.Rows.{AreAt}
+use Rattle.seat_steps.specs.volap_cell.specs.Values.{actor_of}
+use Rattle.seat_steps.specs.volap_turns.specs.Rows.{AreAt}
 
 pub may_enter_at-requires-clause-held : goal.may_enter_at-requires-clause-held
 may_enter_at-requires-clause-held g c = (told-held c.args.floor.now c.args.player.now c.requires.seated ((c.args.map, Some 1) ∷ (c.args.gate, Some 2) ∷ []) c.requires.held).1.0

@@ -1,9 +1,9 @@
 use Rattle.std.proofs.Common.{◌∙◌, ℕ, List, [], ◌∷◌, ◌++◌, Option, inl, refl, sym, ap}
-use Rattle.core_steps.specs.declared.trees.TreeStep.TheVariants.{GiveBack}
+use Rattle.seat_steps.specs.core_steps.specs.declared.trees.TreeStep.TheVariants.{GiveBack}
 use Rattle.part_steps.proofs.{PartsMade.tree-first, PartsSure.{end-bare, give-back-sure, way-ends}}
 use Rattle.part_steps.proofs.parts.finish.Goals as goal
 use Rattle.turn_table.specs.Numbered.{numbers_of}
-use Rattle.volap_cell.specs.declared.errand.Way.TheVariants.{Placed}
+use Rattle.seat_steps.specs.volap_cell.specs.declared.errand.Way.TheVariants.{Placed}
 
 pub end_part-requires-clause-ends : goal.end_part-requires-clause-ends
 end_part-requires-clause-ends g c = way-ends Placed c.requires.placed (inl refl)

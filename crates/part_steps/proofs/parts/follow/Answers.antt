@@ -1,10 +1,10 @@
 use Rattle.std.proofs.Common.{ℕ, List, [], ◌∷◌, ◌++◌, Option, refl, sym, ap, subst, arith}
-use Rattle.core_steps.specs.declared.parts.PartStep.TheVariants.{Expand, Forward}
+use Rattle.seat_steps.specs.core_steps.specs.declared.parts.PartStep.TheVariants.{Expand, Forward}
 use Rattle.part_steps.specs.Parts.{IsLed}
 use Rattle.part_steps.proofs.{PartsLed.gate-turn, PartsMade.{part-second, went-nowhere}, PartsSure.{expand-sure, for-ends, for-out, forward-sure}}
 use Rattle.part_steps.proofs.parts.follow.Goals as goal
 use Rattle.turn_table.specs.Numbered.{numbers_of}
-use Rattle.volap_cell.specs.Values.{actor_of}
+use Rattle.seat_steps.specs.volap_cell.specs.Values.{actor_of}
 
 pub go_on_at_gate-requires-clause-can : goal.go_on_at_gate-requires-clause-can
 go_on_at_gate-requires-clause-can g c =

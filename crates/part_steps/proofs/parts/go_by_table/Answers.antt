@@ -4,7 +4,7 @@ use Rattle.seat_steps.specs.{Floors.IsSeated, declared.floor.Player.Player}
 use Rattle.part_steps.proofs.{PartsLed.{led-seen, table-turn}, PartsMade.went-taken, PartsSure.{end-bare, for-ends}}
 use Rattle.seat_steps.proofs.Around.{took-there}
 use Rattle.part_steps.proofs.parts.go_by_table.Goals as goal
-use Rattle.volap_cell.specs.{Values.{ErrandValue, actor_of}, declared.actor.Actor.Actor}
+use Rattle.seat_steps.specs.volap_cell.specs.{Values.{ErrandValue, actor_of}, declared.actor.Actor.Actor}
 
 pub route_of-route-requires : goal.route_of-route-requires
 route_of-route-requires g c = record { part = subst IsSome (sym (for-ends c.args.due c.requires.due).errand) refl }

@@ -4,7 +4,7 @@ use Rattle.seat_steps.specs.declared.looks.Lead.TheVariants as lead
 use Rattle.part_steps.proofs.{PartsMade.went-taken, PartsSure.{for-ends, led-on, look-up-sure, read-sure}}
 use Rattle.part_steps.proofs.parts.go_on_at_gate.Goals as goal
 use Rattle.turn_table.specs.Numbered.{numbers_of}
-use Rattle.volap_cell.specs.{Values.actor_of, declared.actor.Actor.Actor}
+use Rattle.seat_steps.specs.volap_cell.specs.{Values.actor_of, declared.actor.Actor.Actor}
 
 pub take_for_part-requires-clause-last : goal.take_for_part-requires-clause-last
 take_for_part-requires-clause-last g c = ap (λ (l : List (ℕ × Option ℕ)). numbers_of l ++ c.args.gate ∷ []) (sym c.requires.held)

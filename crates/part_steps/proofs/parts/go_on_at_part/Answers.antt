@@ -1,8 +1,8 @@
 use Rattle.std.proofs.Common.{◌∙◌, refl, ap}
 use Rattle.std.specs.Prelude.{option_map}
-use Rattle.core_due.specs.Wants.{last_noted}
+use Rattle.seat_steps.specs.core_due.specs.Wants.{last_noted}
 use Rattle.part_steps.proofs.parts.go_on_at_part.Goals as goal
-use Rattle.volap_cell.specs.{Values.{errand_of, reading_of, task_of}, declared.errand.Reading.Reading}
+use Rattle.seat_steps.specs.volap_cell.specs.{Values.{errand_of, reading_of, task_of}, declared.errand.Reading.Reading}
 
 pub go_on_with_row-requires-clause-way : goal.go_on_with_row-requires-clause-way
 go_on_with_row-requires-clause-way g c = record {

@@ -1,9 +1,9 @@
 use Rattle.std.proofs.Common.{◌∙◌, ℕ, true, false, List, [], ◌∷◌, ◌++◌, Option, Some, inr, refl, sym, ap}
-use Rattle.core_steps.specs.declared.trees.TreeStep.TheVariants.{Refill}
+use Rattle.seat_steps.specs.core_steps.specs.declared.trees.TreeStep.TheVariants.{Refill}
 use Rattle.part_steps.proofs.{PartsMade.tree-first, PartsSure.{before-known, before-unknown, end-bare, refill-sure, way-ends}}
 use Rattle.part_steps.proofs.parts.go_on_before.Goals as goal
 use Rattle.turn_table.specs.Numbered.{numbers_of}
-use Rattle.volap_cell.specs.declared.errand.Way.TheVariants.{Before}
+use Rattle.seat_steps.specs.volap_cell.specs.declared.errand.Way.TheVariants.{Before}
 
 pub go_by_table-requires-clause-due : goal.go_by_table-requires-clause-due
 go_by_table-requires-clause-due g c = before-unknown c.args.height c.args.filled c.is_none.result c.is_none.ensures c.if-is_none.true c.requires.before

@@ -1,10 +1,10 @@
 use Rattle.std.proofs.Common.{◌∙◌, ℕ, List, [], ◌∷◌, ◌++◌, Option, refl, sym, ap, subst}
-use Rattle.core_steps.specs.declared.trees.TreeStep.TheVariants.{VisitBlock}
+use Rattle.seat_steps.specs.core_steps.specs.declared.trees.TreeStep.TheVariants.{VisitBlock}
 use Rattle.part_steps.specs.Parts.{IsVisiting}
 use Rattle.part_steps.proofs.{PartsMade.tree-first, PartsSure.{end-bare, visit-ends, visit-sure}}
 use Rattle.part_steps.proofs.parts.go_on_with_query.Goals as goal
 use Rattle.turn_table.specs.Numbered.{numbers_of}
-use Rattle.volap_cell.specs.Values.{actor_of}
+use Rattle.seat_steps.specs.volap_cell.specs.Values.{actor_of}
 
 pub end_part-requires-clause-ends : goal.end_part-requires-clause-ends
 end_part-requires-clause-ends g c = visit-ends c.args.noted c.requires.reading

@@ -1,11 +1,11 @@
 use Rattle.std.proofs.Common.{◌∙◌, ℕ, List, [], ◌∷◌, ◌++◌, Option, refl, sym, ap, subst}
-use Rattle.core_steps.specs.declared.trees.TreeStep.TheVariants.{LeaveTree}
+use Rattle.seat_steps.specs.core_steps.specs.declared.trees.TreeStep.TheVariants.{LeaveTree}
 use Rattle.part_steps.specs.Parts.{HasWay}
 use Rattle.part_steps.proofs.{PartsMade.tree-first, PartsSure.{leave-sure, way-bare}}
 use Rattle.part_steps.proofs.parts.go_on_with_row.Goals as goal
 use Rattle.turn_table.specs.Numbered.{numbers_of}
-use Rattle.volap_cell.specs.Values.{actor_of}
-use Rattle.volap_cell.specs.declared.errand.Way.TheVariants.{Put}
+use Rattle.seat_steps.specs.volap_cell.specs.Values.{actor_of}
+use Rattle.seat_steps.specs.volap_cell.specs.declared.errand.Way.TheVariants.{Put}
 
 pub go_on_before-requires-clause-before : goal.go_on_before-requires-clause-before
 go_on_before-requires-clause-before g c = subst (HasWay (actor_of c.args.player.now.actor)) c.in-Before.is c.requires.way

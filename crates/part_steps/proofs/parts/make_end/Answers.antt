@@ -1,7 +1,7 @@
 use Rattle.std.proofs.Common.{arith}
 use Rattle.part_steps.proofs.PartsMade.{kept-part, part-asked, part-few, went-part}
 use Rattle.part_steps.proofs.parts.make_end.Goals as goal
-use Rattle.volap_turns.proofs.Turned.{when-ok}
+use Rattle.seat_steps.specs.volap_turns.proofs.Turned.{when-ok}
 
 pub make-requires-clause-some : goal.make-requires-clause-some
 make-requires-clause-some c = omega (arith, c.requires.at.count, (part-few c.args.step).0)

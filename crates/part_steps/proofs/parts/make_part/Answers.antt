@@ -2,7 +2,7 @@ use Rattle.std.proofs.Common.{◌∙◌, arith, sym, subst}
 use Rattle.part_steps.specs.Parts.{CanEndPart}
 use Rattle.part_steps.proofs.PartsMade.{kept-part, part-asked, part-few, went-behind, went-part}
 use Rattle.part_steps.proofs.parts.make_part.Goals as goal
-use Rattle.volap_turns.proofs.Turned.{when-err, when-ok}
+use Rattle.seat_steps.specs.volap_turns.proofs.Turned.{when-err, when-ok}
 
 pub make-requires-clause-some : goal.make-requires-clause-some
 make-requires-clause-some g c = omega (arith, c.requires.at.count, (part-few c.args.step).0)

@@ -1,9 +1,9 @@
 use Rattle.std.proofs.Common.{◌∙◌, arith, sym, subst}
-use Rattle.core_steps.specs.Trees.{tree_may_fail}
+use Rattle.seat_steps.specs.core_steps.specs.Trees.{tree_may_fail}
 use Rattle.part_steps.specs.Parts.{CanEndPart}
 use Rattle.part_steps.proofs.{Keeping.tree-kept, PartsMade.{may-fail, tree-asked, tree-few, went-behind, went-tree}}
 use Rattle.part_steps.proofs.parts.make_tree.Goals as goal
-use Rattle.volap_turns.proofs.Turned.{when-err, when-ok}
+use Rattle.seat_steps.specs.volap_turns.proofs.Turned.{when-err, when-ok}
 
 pub make-requires-clause-some : goal.make-requires-clause-some
 make-requires-clause-some g c = omega (arith, c.requires.at.count, (tree-few c.args.step).0)

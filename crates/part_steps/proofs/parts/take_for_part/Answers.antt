@@ -2,7 +2,7 @@ use Rattle.std.proofs.Common.{◌∙◌, sym, subst}
 use Rattle.part_steps.specs.Parts.{CanEndPart}
 use Rattle.part_steps.proofs.{PartsMade.{part-at, went-taken}, PartsSure.part-on, Takings.numbers-taken}
 use Rattle.part_steps.proofs.parts.take_for_part.Goals as goal
-use Rattle.volap_cell.specs.{Values.actor_of, declared.actor.Actor.Actor}
+use Rattle.seat_steps.specs.volap_cell.specs.{Values.actor_of, declared.actor.Actor.Actor}
 
 pub make_part-requires-clause-at : goal.make_part-requires-clause-at
 make_part-requires-clause-at g c =

@@ -1,7 +1,7 @@
 use Rattle.std.proofs.Common.{refl}
 use Rattle.part_steps.proofs.RowsMade.{row-asked, row-at, row-few, row-some, went-row}
 use Rattle.part_steps.proofs.rows.make_row.Goals as goal
-use Rattle.volap_turns.proofs.Turned.{when-ok}
+use Rattle.seat_steps.specs.volap_turns.proofs.Turned.{when-ok}
 
 pub make-requires-clause-some : goal.make-requires-clause-some
 make-requires-clause-some c = row-some c.args.floor.now c.args.player.now c.args.step c.requires.ready

@@ -1,11 +1,11 @@
 use Rattle.std.proofs.Common.{◌≡◌, ◌∙◌, ℕ, ◌≤◌, length, Option, None, sym, ap, subst}
-use Rattle.core_due.specs.Spares.{last_spare}
-use Rattle.core_steps.specs.Places.{numbers}
+use Rattle.seat_steps.specs.core_due.specs.Spares.{last_spare}
+use Rattle.seat_steps.specs.core_steps.specs.Places.{numbers}
 use Rattle.part_steps.specs.Heads.{AreUpToBlocks, CanTake, InAll, TakesAll, head_at, places_of}
 use Rattle.seat_steps.specs.{Floors.IsSeated, declared.floor.Player.Player}
 use Rattle.part_steps.proofs.RowsDown.{block-there, can-pick, down-can, down-taken, down-up, one-held}
 use Rattle.part_steps.proofs.rows.take_down.Goals as goal
-use Rattle.volap_cell.specs.Values.{actor_of}
+use Rattle.seat_steps.specs.volap_cell.specs.Values.{actor_of}
 
 pub pick_at-place-requires-clause-held : goal.pick_at-place-requires-clause-held
 pick_at-place-requires-clause-held g c = block-there c.args.floor.now c.args.player.now c.args.block c.requires.stands c.requires.descends

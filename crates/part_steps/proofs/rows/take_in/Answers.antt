@@ -1,11 +1,11 @@
 use Rattle.std.proofs.Common.{◌≡◌, ◌∙◌, ℕ, ◌≤◌, length, Option, sym, ap, subst}
-use Rattle.core_due.specs.Spares.{last_spare, spare_before}
-use Rattle.core_steps.specs.Places.{numbers}
+use Rattle.seat_steps.specs.core_due.specs.Spares.{last_spare, spare_before}
+use Rattle.seat_steps.specs.core_steps.specs.Places.{numbers}
 use Rattle.part_steps.specs.Heads.{AreUpToBlocks, CanTake, InAll, TakesAll, head_at, places_of}
 use Rattle.seat_steps.specs.{Floors.IsSeated, declared.floor.Player.Player}
 use Rattle.part_steps.proofs.RowsIn.{gate-there, in-can, in-taken, in-up, two-held}
 use Rattle.part_steps.proofs.rows.take_in.Goals as goal
-use Rattle.volap_cell.specs.Values.{actor_of}
+use Rattle.seat_steps.specs.volap_cell.specs.Values.{actor_of}
 
 pub root_at-group-requires-clause-held : goal.root_at-group-requires-clause-held
 root_at-group-requires-clause-held g c = gate-there c.args.floor.now c.args.player.now c.args.map c.args.gate c.requires.seated c.requires.held c.requires.enters

@@ -1,11 +1,11 @@
 use Rattle.std.proofs.{Common.{◌≡◌, ◌∙◌, ◌+◌, ◌-◌, ◌≤◌, List, length, take, sym, refl, subst, arith}, lemmas.List.{length-take-le, take-take, take_all}}
 use Rattle.script_form.specs.declared.script.Command.{Command}
 use Rattle.script_run.specs.Streams.{NoneCloses}
-use Rattle.seeded_run.specs.{Kept.IsBetween, Order.is_order, Phase.{about, held}}
-use Rattle.script_roles.proofs.Roles.{can-open}
+use Rattle.library_runs.specs.seeded_run.specs.{Kept.IsBetween, Order.is_order, Phase.{about, held}}
+use Rattle.library_runs.specs.script_roles.proofs.Roles.{can-open}
 use Rattle.run_tests.proofs.MayRun.{ends-within, may-take}
 use Rattle.run_tests.proofs.runs.run_all.Goals as goal
-use Rattle.olap_top.proofs.PhaseSteps.{closes-of}
+use Rattle.library_runs.specs.olap_top.proofs.PhaseSteps.{closes-of}
 
 pub open_core-requires : goal.open_core-requires
 open_core-requires c = can-open c.args.script.now.hierarchy c.args.script.now.with c.requires.settings c.dims-dims.ensures.valid

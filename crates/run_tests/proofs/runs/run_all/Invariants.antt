@@ -1,5 +1,5 @@
 use Rattle.std.proofs.Common.{◌≡◌, ◌≤◌, ◌-◌, length, take}
-use Rattle.seeded_run.specs.{Kept.IsBetween, Order.is_order, Phase.{IsCoreHeld, about, held}}
+use Rattle.library_runs.specs.seeded_run.specs.{Kept.IsBetween, Order.is_order, Phase.{IsCoreHeld, about, held}}
 use Rattle.run_tests.proofs.runs.run_all.Given as goal
 
 abbrev pub decreases-loop-done : goal.decreases-loop-done

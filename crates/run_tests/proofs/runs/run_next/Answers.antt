@@ -1,6 +1,6 @@
 use Rattle.std.proofs.Common.{List, sym, subst}
 use Rattle.script_form.specs.declared.script.Command.{Command}
-use Rattle.seeded_run.specs.{Kept.IsBetween, Order.is_order, Phase.{ClosesLast, about, held}}
+use Rattle.library_runs.specs.seeded_run.specs.{Kept.IsBetween, Order.is_order, Phase.{ClosesLast, about, held}}
 use Rattle.run_tests.proofs.MayRun.{may-split}
 use Rattle.run_tests.proofs.runs.run_next.Goals as goal
 

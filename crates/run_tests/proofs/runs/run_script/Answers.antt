@@ -1,5 +1,5 @@
 use Rattle.std.proofs.Common.{sym, subst}
-use Rattle.seeded_run.specs.Phase.{MayAllRun}
+use Rattle.library_runs.specs.seeded_run.specs.Phase.{MayAllRun}
 use Rattle.run_tests.proofs.runs.run_script.Goals as goal
 
 pub run_all-requires-clause-may_run : goal.run_all-requires-clause-may_run

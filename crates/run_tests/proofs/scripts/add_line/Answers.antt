@@ -1,4 +1,4 @@
-use Rattle.seeded_run.specs.Phase.{MayRun}
+use Rattle.library_runs.specs.seeded_run.specs.Phase.{MayRun}
 use Rattle.run_tests.proofs.MayRun.{all-pushed}
 use Rattle.run_tests.proofs.scripts.add_line.Goals as goal
 

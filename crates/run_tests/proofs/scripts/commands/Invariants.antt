@@ -1,5 +1,5 @@
 use Rattle.std.specs.Prelude.{All}
-use Rattle.seeded_run.specs.Phase.{MayRun}
+use Rattle.library_runs.specs.seeded_run.specs.Phase.{MayRun}
 use Rattle.run_tests.proofs.scripts.commands.Given as goal
 
 abbrev pub invariant-loop-line : goal.invariant-loop-line

@@ -1,5 +1,5 @@
 use Rattle.std.proofs.Common.{sym, subst}
-use Rattle.seeded_run.specs.Phase.{MayAllRun}
+use Rattle.library_runs.specs.seeded_run.specs.Phase.{MayAllRun}
 use Rattle.run_tests.proofs.MayRun.{may-split}
 use Rattle.run_tests.proofs.stories.answered.Goals as goal
 

@@ -1,5 +1,5 @@
 use Rattle.std.proofs.Common.{ap, subst}
-use Rattle.seeded_run.specs.{Kept.IsBetween, Order.is_order, Phase.{about, held}}
+use Rattle.library_runs.specs.seeded_run.specs.{Kept.IsBetween, Order.is_order, Phase.{about, held}}
 use Rattle.run_tests.proofs.MayRun.{may-front}
 use Rattle.run_tests.proofs.stories.by_hand.Goals as goal
 

@@ -1,7 +1,7 @@
 use Rattle.std.proofs.{Common.{◌≡◌, ◌≤◌, arith, length, subst}, lemmas.Bool.eqb-true, lemmas.List.take_all}
-use Rattle.seeded_run.specs.Phase.{ClosesLast}
+use Rattle.library_runs.specs.seeded_run.specs.Phase.{ClosesLast}
 use Rattle.run_tests.proofs.stories.is_one_phase.Goals as goal
-use Rattle.olap_top.proofs.PhaseSteps.{closes-last}
+use Rattle.library_runs.specs.olap_top.proofs.PhaseSteps.{closes-last}
 
 pub returns : goal.returns
 returns c = λ is.

@@ -1,7 +1,7 @@
 use Rattle.std.proofs.Common.{◌∙◌, ℕ, List, [], ◌∷◌, ◌++◌, length, Option, Some, ap, subst, sym, arith}
 use Rattle.seat_steps.proofs.{Ranks.order-none, Since.{nothing-held, nothing-told}}
 use Rattle.turn_table.specs.{Numbered.value_of, Seat.IsInOrder}
-use Rattle.volap_cell.specs.declared.cell.Cell.{Cell}
+use Rattle.core_due.specs.volap_cell.specs.declared.cell.Cell.{Cell}
 use Rattle.seat_steps.proofs.booked.take_first.Goals as goal
 
 pub take-requires-clause-other : goal.take-requires-clause-other

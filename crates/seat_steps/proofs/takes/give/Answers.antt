@@ -3,7 +3,7 @@ use Rattle.row_ledger.specs.declared.event.Event.{Event}
 use Rattle.seat_steps.specs.Floors.{AreTold, kept_by}
 use Rattle.seat_steps.proofs.{Taken.{free-of, gave-holds}, Told.still-told}
 use Rattle.turn_table.specs.{Numbered.value_of, Seat.SeatValue}
-use Rattle.volap_cell.specs.{Values.actor_of, declared.{actor.Actor.Actor, cell.Cell.Cell}}
+use Rattle.core_due.specs.volap_cell.specs.{Values.actor_of, declared.{actor.Actor.Actor, cell.Cell.Cell}}
 use Rattle.seat_steps.proofs.takes.give.Goals as goal
 
 pub release-requires-clause-free : goal.release-requires-clause-free

@@ -5,7 +5,7 @@ use Rattle.seat_steps.proofs.Left.{less-without}
 use Rattle.seat_steps.proofs.Told.{alone-left, keeps-named}
 use Rattle.turn_table.specs.Numbered.{value_of}
 use Rattle.turn_table.proofs.Numbered.{find_same}
-use Rattle.volap_cell.specs.{Values.actor_of, declared.actor.Actor.Actor}
+use Rattle.core_due.specs.volap_cell.specs.{Values.actor_of, declared.actor.Actor.Actor}
 use Rattle.seat_steps.proofs.takes.give_all.Goals as goal
 
 pub give-requires-clause-held : goal.give-requires-clause-held

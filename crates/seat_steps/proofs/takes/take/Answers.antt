@@ -2,7 +2,7 @@ use Rattle.std.proofs.Common.{◌∷◌, [], Some, ap}
 use Rattle.row_ledger.specs.declared.event.Event.{Event}
 use Rattle.seat_steps.proofs.Taken.{seated-still, took-holds}
 use Rattle.turn_table.specs.Seat.{SeatValue}
-use Rattle.volap_cell.specs.declared.{actor.Actor.Actor, cell.Cell.Cell}
+use Rattle.core_due.specs.volap_cell.specs.declared.{actor.Actor.Actor, cell.Cell.Cell}
 use Rattle.seat_steps.proofs.takes.take.Goals as goal
 
 pub returns-clause-seated : goal.returns-clause-seated

@@ -1,5 +1,5 @@
 use Rattle.seat_steps.proofs.Taken.{tried-ranks, tried-refused, tried-same, tried-seen, tried-seated, tried-took}
-use Rattle.volap_cell.proofs.Outcomes.{on-ok}
+use Rattle.core_due.specs.volap_cell.proofs.Outcomes.{on-ok}
 use Rattle.seat_steps.proofs.takes.try_take.Goals as goal
 
 pub returns-clause-seated : goal.returns-clause-seated

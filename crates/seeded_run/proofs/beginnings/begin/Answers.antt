@@ -1,6 +1,6 @@
 use Rattle.std.proofs.Common.{inl, refl}
-use Rattle.volap_cell.proofs.Outcomes.{on-ok}
-use Rattle.volap_cell.specs.declared.kind.Kind.TheVariants.{Note}
+use Rattle.core_pages.specs.volap_cell.proofs.Outcomes.{on-ok}
+use Rattle.core_pages.specs.volap_cell.specs.declared.kind.Kind.TheVariants.{Note}
 use Rattle.seeded_run.specs.{Commands.beginning, Due.are_known}
 use Rattle.seeded_run.proofs.{Instead.note-stands, Ready.BeginsReady.{still-core, to-begin-still}, States.further-then}
 use Rattle.seeded_run.proofs.beginnings.begin.Goals as goal

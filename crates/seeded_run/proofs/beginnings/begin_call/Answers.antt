@@ -1,10 +1,10 @@
 use Rattle.std.proofs.Common.{◌∙◌, ap, refl, subst, sym}
 use Rattle.core_due.specs.WorksReady.{MayMakeNote}
-use Rattle.core_steps.specs.{Notes.{note_asks, note_places, note_tells}, Steps.IsTold, declared.notes.NoteStep.NoteStep}
-use Rattle.core_steps.specs.declared.notes.NoteStep.TheVariants.{Asking, Called}
+use Rattle.core_due.specs.core_steps.specs.{Notes.{note_asks, note_places, note_tells}, Steps.IsTold, declared.notes.NoteStep.NoteStep}
+use Rattle.core_due.specs.core_steps.specs.declared.notes.NoteStep.TheVariants.{Asking, Called}
 use Rattle.script_form.specs.declared.script.Command.TheVariants.{Control}
-use Rattle.volap_cell.specs.ImageKinds.{asks_registry}
-use Rattle.volap_cell.proofs.Outcomes.{on-ok}
+use Rattle.core_pages.specs.volap_cell.specs.ImageKinds.{asks_registry}
+use Rattle.core_pages.specs.volap_cell.proofs.Outcomes.{on-ok}
 use Rattle.seeded_run.proofs.{Ready.BeginsReady.{asking-asked, begun-call, called-asked, noting, noting-both}, States.core-sound}
 use Rattle.seeded_run.proofs.beginnings.begin_call.Goals as goal
 use Rattle.seeded_run.proofs.beginnings.begin_call.Goals.{then-asks_registry, else-asks_registry}

@@ -1,7 +1,7 @@
 use Rattle.std.proofs.{Common.{◌≡◌, true, is_none, refl, sym, ap, subst, to_z, of_z, w64, rules}, lemmas.Int.to_z-of_z}
-use Rattle.core_steps.specs.Steps.{IsFurther}
+use Rattle.core_due.specs.core_steps.specs.Steps.{IsFurther}
 use Rattle.script_form.specs.declared.script.Command.TheVariants.{Insert}
-use Rattle.volap_cell.specs.declared.kind.Kind.{Kind}
+use Rattle.core_pages.specs.volap_cell.specs.declared.kind.Kind.{Kind}
 use Rattle.seeded_run.specs.{Commands.beginning_if, Due.are_known}
 use Rattle.seeded_run.proofs.{Due.DueBegins.{known-names, unknown-name}, Ready.BeginsReady.{begun-insert, insert-may}, States.core-sound}
 use Rattle.seeded_run.proofs.beginnings.begin_insert.Goals as goal

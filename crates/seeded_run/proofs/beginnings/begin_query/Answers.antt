@@ -1,7 +1,7 @@
 use Rattle.std.proofs.Common.{◌≡◌, true, is_none, refl, sym, ap, subst}
-use Rattle.core_steps.specs.Steps.{IsFurther}
+use Rattle.core_due.specs.core_steps.specs.Steps.{IsFurther}
 use Rattle.script_form.specs.declared.script.Command.TheVariants.{Query}
-use Rattle.volap_cell.specs.declared.kind.Kind.{Kind}
+use Rattle.core_pages.specs.volap_cell.specs.declared.kind.Kind.{Kind}
 use Rattle.seeded_run.specs.{Commands.beginning_if, Due.are_known}
 use Rattle.seeded_run.proofs.{Due.DueBegins.known-picks, Ready.BeginsReady.{begun-query, query-may}, States.core-sound}
 use Rattle.seeded_run.proofs.beginnings.begin_query.Goals as goal

@@ -1,5 +1,5 @@
-use Rattle.core_steps.specs.{Notes.note_asks, declared.notes.NoteStep.TheVariants.Unknown}
-use Rattle.volap_cell.proofs.Outcomes.{on-ok}
+use Rattle.core_due.specs.core_steps.specs.{Notes.note_asks, declared.notes.NoteStep.TheVariants.Unknown}
+use Rattle.core_pages.specs.volap_cell.proofs.Outcomes.{on-ok}
 use Rattle.seeded_run.proofs.{Ready.BeginsReady.{begun-unknown, noting, unknown-asked}, States.core-sound}
 use Rattle.seeded_run.proofs.beginnings.end_unknown.Goals as goal
 

@@ -1,9 +1,9 @@
 use Rattle.std.proofs.Common.{◌≡◌, ◌∙◌, false, Err, Some, is_none, sym, ap, subst}
-use Rattle.core_steps.specs.Steps.{IsFurther}
+use Rattle.core_due.specs.core_steps.specs.Steps.{IsFurther}
 use Rattle.script_run.specs.Runs.{first_unknown}
-use Rattle.volap_cell.proofs.Outcomes.{on-ok}
-use Rattle.volap_cell.specs.declared.kind.Kind.{Kind}
-use Rattle.volap_cell.specs.declared.kind.Kind.TheVariants.{Note}
+use Rattle.core_pages.specs.volap_cell.proofs.Outcomes.{on-ok}
+use Rattle.core_pages.specs.volap_cell.specs.declared.kind.Kind.{Kind}
+use Rattle.core_pages.specs.volap_cell.specs.declared.kind.Kind.TheVariants.{Note}
 use Rattle.seeded_run.specs.{Commands.beginning_if, Due.are_known}
 use Rattle.seeded_run.proofs.{Due.DueBegins.ends-noted, Ready.BeginsReady.{still-core, to-begin-still}, States.further-then}
 use Rattle.seeded_run.proofs.beginnings.try_to_begin.Goals as goal

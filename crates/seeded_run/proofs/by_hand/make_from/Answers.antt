@@ -1,5 +1,5 @@
 use Rattle.std.proofs.Common.{◌∙◌, ap, false, length, List, Option, refl, subst}
-use Rattle.volap_cell.specs.{declared.actor.Actor.Actor, declared.state.State.State}
+use Rattle.core_pages.specs.volap_cell.specs.{declared.actor.Actor.Actor, declared.state.State.State}
 use Rattle.seeded_run.specs.{Hands.AreFreeHands, Machine.streams_open, Phase.StopsBehindAny}
 use Rattle.seeded_run.proofs.Cursors.FirstCursors.{first-moment}
 use Rattle.seeded_run.proofs.by_hand.make_from.Goals as goal

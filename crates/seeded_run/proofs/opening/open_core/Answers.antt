@@ -1,5 +1,5 @@
 use Rattle.std.proofs.Common.{List, subst, sym}
-use Rattle.volap_cell.specs.{Filling.setting_for, Numbering.IsSetting, declared.role.Role.Role}
+use Rattle.core_pages.specs.volap_cell.specs.{Filling.setting_for, Numbering.IsSetting, declared.role.Role.Role}
 use Rattle.script_roles.proofs.Roles.{opens}
 use Rattle.seeded_run.proofs.Openings.{opened-between, opened-core, opened-roles, opened-so}
 use Rattle.seeded_run.proofs.opening.open_core.Goals as goal

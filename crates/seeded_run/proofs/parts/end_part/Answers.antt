@@ -1,7 +1,7 @@
 use Rattle.std.proofs.Common.{◌∙◌, [], ap, sym, subst}
 use Rattle.core_due.specs.{Look.setting_by, Ready.MayMakePart}
-use Rattle.core_steps.specs.{Parts.{part_kind, part_may_fail}, Steps.IsFurther}
-use Rattle.volap_cell.specs.{ShardKinds.pin_of, declared.kind.Kind.Kind}
+use Rattle.core_due.specs.core_steps.specs.{Parts.{part_kind, part_may_fail}, Steps.IsFurther}
+use Rattle.core_pages.specs.volap_cell.specs.{ShardKinds.pin_of, declared.kind.Kind.Kind}
 use Rattle.seeded_run.specs.Drives.{EndsPart}
 use Rattle.seeded_run.proofs.{PartsMade.{ending-kind, ending-sure}, States.{made-so, of-lent}}
 use Rattle.seeded_run.proofs.parts.end_part.Goals as goal

@@ -1,9 +1,9 @@
 use Rattle.std.proofs.Common.{◌∙◌, ap, sym, subst}
 use Rattle.std.specs.Prelude.{⊤}
 use Rattle.core_due.specs.{Look.world_by, Parts.due_kind, Ready.CanDescend, Rows.{descent_of, entrance_of}, declared.parts.PartDue.PartDue}
-use Rattle.core_steps.specs.{Rows.{row_asks, row_places}, Steps.IsFurther}
-use Rattle.volap_cell.proofs.Outcomes.{on-ok}
-use Rattle.volap_cell.specs.declared.kind.Kind.{Kind}
+use Rattle.core_due.specs.core_steps.specs.{Rows.{row_asks, row_places}, Steps.IsFurther}
+use Rattle.core_pages.specs.volap_cell.proofs.Outcomes.{on-ok}
+use Rattle.core_pages.specs.volap_cell.specs.declared.kind.Kind.{Kind}
 use Rattle.seeded_run.specs.Drives.{IsFound, MayGoOn}
 use Rattle.seeded_run.proofs.{PartsMade.{found-may, has-second, is-down}, States.may-then}
 use Rattle.seeded_run.proofs.parts.make_at_part.Goals as goal

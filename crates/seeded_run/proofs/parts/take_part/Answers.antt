@@ -1,9 +1,9 @@
 use Rattle.std.proofs.Common.{◌≡◌, ◌∙◌, ℕ, true, false, List, [], Option, sym, subst}
 use Rattle.std.specs.List.{list_any}
 use Rattle.core_due.specs.{Awaited.IsAwaited, Look.{cell_at, setting_by}, Ready.MayMakePart}
-use Rattle.core_steps.specs.declared.parts.PartStep.TheVariants.{TakePart}
+use Rattle.core_due.specs.core_steps.specs.declared.parts.PartStep.TheVariants.{TakePart}
 use Rattle.query_router.specs.Desk.{waits_for}
-use Rattle.volap_cell.specs.{Cells.desk_in, Setting.desk_cell, declared.cell.Cell.Cell}
+use Rattle.core_pages.specs.volap_cell.specs.{Cells.desk_in, Setting.desk_cell, declared.cell.Cell.Cell}
 use Rattle.seeded_run.proofs.Holding.Others.{any-at}
 use Rattle.seeded_run.proofs.parts.take_part.Goals as goal
 

@@ -1,6 +1,6 @@
 use Rattle.std.proofs.Common.{◌∙◌, ap, length, List, Option, refl, subst}
 use Rattle.std.specs.Prelude.{OnErr, OnOk}
-use Rattle.volap_cell.specs.{declared.actor.Actor.Actor, declared.state.State.State}
+use Rattle.core_pages.specs.volap_cell.specs.{declared.actor.Actor.Actor, declared.state.State.State}
 use Rattle.seeded_run.specs.{Hands.AreFreeHands, Kept.{AreIdle, HasBegunAll}, Machine.streams_open, Order.is_order, Phase.{EndsBehindAny, StopsBehindAny, held, phase_from}}
 use Rattle.row_ledger.specs.declared.settings.Use.{Use}
 use Rattle.seeded_run.proofs.Cursors.FirstCursors.{first-moment}

@@ -1,5 +1,5 @@
 use Rattle.std.proofs.Common.{refl}
-use Rattle.core_image.specs.ToldPages.{shown_by}
+use Rattle.core_pages.specs.core_image.specs.ToldPages.{shown_by}
 use Rattle.seeded_run.proofs.{GivesWay.note-made, States.made-so}
 use Rattle.seeded_run.proofs.shows.show_page.Goals as goal
 

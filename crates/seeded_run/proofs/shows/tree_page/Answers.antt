@@ -5,7 +5,7 @@ use Rattle.dim_hierarchy.specs.Dimension.{Dimension}
 use Rattle.mapping_table.specs.declared.place.Where.{Where}
 use Rattle.mapping_table.specs.declared.place.Where.TheVariants as where_is
 use Rattle.row_ledger.specs.declared.settings.Use.{Use}
-use Rattle.volap_cell.specs.{declared.cell.Cell.Cell, declared.state.State.State}
+use Rattle.core_pages.specs.volap_cell.specs.{declared.cell.Cell.Cell, declared.state.State.State}
 use Rattle.seeded_run.specs.Pages.{ShowsTree, place_of, seen}
 use Rattle.seeded_run.proofs.shows.tree_page.Goals as goal
 

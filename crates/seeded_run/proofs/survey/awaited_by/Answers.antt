@@ -2,7 +2,7 @@ use Rattle.std.proofs.Common.{◌≡◌, ℕ, [], Bool, ap, arith, false, get_or
 use Rattle.std.specs.List.{list_any}
 use Rattle.query_router.specs.Desk.{waits_for}
 use Rattle.core_due.specs.{Due.any_below, Look.{cell_at, setting_by}}
-use Rattle.volap_cell.specs.{Cells.desk_in, Setting.desk_cell}
+use Rattle.core_pages.specs.volap_cell.specs.{Cells.desk_in, Setting.desk_cell}
 use Rattle.seeded_run.proofs.Surveys.{asks-no-more, asks-one-more, none-of}
 use Rattle.seeded_run.proofs.survey.awaited_by.Goals as goal
 

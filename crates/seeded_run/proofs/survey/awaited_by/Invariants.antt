@@ -3,7 +3,7 @@ use Rattle.std.specs.List.{list_any}
 use Rattle.query_router.specs.Desk.{waits_for}
 use Rattle.core_due.specs.{Due.any_below, Look.{cell_at, setting_by}}
 use Rattle.seeded_run.specs.Survey.{AllAwaited}
-use Rattle.volap_cell.specs.{Cells.desk_in, Setting.desk_cell}
+use Rattle.core_pages.specs.volap_cell.specs.{Cells.desk_in, Setting.desk_cell}
 use Rattle.seeded_run.proofs.survey.awaited_by.Given as goal
 
 abbrev pub invariant-loop-server : goal.invariant-loop-server

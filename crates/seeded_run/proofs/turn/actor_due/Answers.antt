@@ -1,6 +1,6 @@
 use Rattle.std.proofs.Common.{◌∙◌, Option, ap, false, option_copied, option_map}
 use Rattle.std.specs.Option.{option_map_or}
-use Rattle.volap_cell.specs.{Values.{actor_of, errand_of}, declared.errand.Errand.Errand}
+use Rattle.core_pages.specs.volap_cell.specs.{Values.{actor_of, errand_of}, declared.errand.Errand.Errand}
 use Rattle.core_due.specs.Look.{setting_by, world_by}
 use Rattle.seeded_run.specs.{Due.actor_kind, DueSteps.{actor_step, step_where}, Look.{ahead, alone_by}, Takes.is_free_by}
 use Rattle.seeded_run.proofs.TurnsDue.{at-no-part}

@@ -1,5 +1,5 @@
 use Rattle.std.proofs.{Common.{◌∙◌, ◌≡◌, List, Option, None, Some, ap, get_or, option_copied, subst, sym}, lemmas.List.get_or_read}
-use Rattle.volap_cell.specs.{Values.actor_of, declared.cell.Cell.Cell}
+use Rattle.core_pages.specs.volap_cell.specs.{Values.actor_of, declared.cell.Cell.Cell}
 use Rattle.core_due.specs.{Look.world_by, Wants.is_drained}
 use Rattle.seeded_run.specs.Takes.{AsksHere}
 use Rattle.seeded_run.proofs.Takings.{bytes-so, can-pick, desk-empty, stays-so, steps-so}

@@ -1,6 +1,6 @@
 use Rattle.std.proofs.Common.{◌∙◌, ◌≡◌, ap, Bool, cond, List, None, Option, Some, sym, true}
 use Rattle.std.specs.Option.{option_map_or}
-use Rattle.volap_cell.specs.{Values.{actor_of, errand_of}, declared.cell.Cell.Cell}
+use Rattle.core_pages.specs.volap_cell.specs.{Values.{actor_of, errand_of}, declared.cell.Cell.Cell}
 use Rattle.core_due.specs.{Look.{setting_by, world_by}, Parts.part_due}
 use Rattle.seeded_run.specs.{Takes.{free_by, wanted_for}, declared.turn.DueStep.TheVariants.AtPart}
 use Rattle.seeded_run.proofs.{WantedFor.{all-free, goes-if-free, none-at-part}, turn.errand_due.Goals.{else-alone, then-alone}}

@@ -1,7 +1,7 @@
 use Rattle.std.proofs.Common.{◌≡◌, ℕ, Bool, true, false, List, Option, Some, None, [], ap, option_map, subst, sym}
 use Rattle.std.specs.{List.list_any, Prelude.if◌then◌else◌}
 use Rattle.query_router.specs.Desk.{waits_for}
-use Rattle.volap_cell.specs.{Cells.desk_in, Setting.desk_cell, declared.cell.Cell.Cell, declared.kind.Kind.TheVariants.TakePart}
+use Rattle.core_pages.specs.volap_cell.specs.{Cells.desk_in, Setting.desk_cell, declared.cell.Cell.Cell, declared.kind.Kind.TheVariants.TakePart}
 use Rattle.core_due.specs.{Due.any_below, Look.{cell_at, setting_by}}
 use Rattle.seeded_run.specs.declared.turn.DueStep.TheVariants.{Takes}
 use Rattle.seeded_run.proofs.Holding.Others.{any-at}

@@ -1,5 +1,5 @@
 use Rattle.std.proofs.Common.{ap}
-use Rattle.volap_cell.specs.Values.{task_of}
+use Rattle.core_pages.specs.volap_cell.specs.Values.{task_of}
 use Rattle.seeded_run.proofs.wanted.child_wanted.Goals as goal
 
 pub child_at-requires-clause-body : goal.child_at-requires-clause-body

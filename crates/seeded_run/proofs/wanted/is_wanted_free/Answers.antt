@@ -1,5 +1,5 @@
 use Rattle.std.proofs.Common.{◌∙◌, false, get_or, IfSome, List, option_copied, Option, subst, sym, ap}
-use Rattle.volap_cell.specs.{Values.errand_of, declared.cell.Cell.Cell}
+use Rattle.core_pages.specs.volap_cell.specs.{Values.errand_of, declared.cell.Cell.Cell}
 use Rattle.core_due.specs.Look.{world_by}
 use Rattle.seeded_run.specs.{Survey.{MarksCarried, mark_of}, Takes.{free_by, wanted_for}, declared.survey.Survey.Survey}
 use Rattle.seeded_run.proofs.Surveys.{unmarked-free, unmarked-meets}

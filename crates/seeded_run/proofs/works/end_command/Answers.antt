@@ -1,5 +1,5 @@
 use Rattle.std.proofs.Common.{refl}
-use Rattle.core_image.specs.Told.{open_of}
+use Rattle.core_pages.specs.core_image.specs.Told.{open_of}
 use Rattle.row_ledger.specs.declared.event.Event.TheVariants.{Ended}
 use Rattle.seeded_run.proofs.{GivesWay.note-made, States.made-so}
 use Rattle.seeded_run.proofs.works.end_command.Goals as goal

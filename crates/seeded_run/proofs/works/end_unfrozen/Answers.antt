@@ -1,7 +1,7 @@
 use Rattle.std.proofs.Common.{◌∙◌, refl, sym}
 use Rattle.seeded_run.specs.Drives.{Stops}
 use Rattle.seeded_run.proofs.{GivesWay.{note-made, stops-end, stops-left}, States.{made-so, of-lent}}
-use Rattle.volap_cell.specs.Values.{actor_of}
+use Rattle.core_pages.specs.volap_cell.specs.Values.{actor_of}
 use Rattle.seeded_run.proofs.works.end_unfrozen.Goals as goal
 
 pub make-requires-clause-may : goal.make-requires-clause-may

@@ -2,7 +2,7 @@ use Rattle.std.proofs.Common.{refl, subst, sym}
 use Rattle.seeded_run.specs.Drives.{StopsAtDesk}
 use Rattle.seeded_run.specs.declared.works.Instead.{Instead}
 use Rattle.seeded_run.proofs.{GivesWay.{book-made, book-stands, desk-stops, goes-on-instead}, States.may-fail}
-use Rattle.volap_cell.specs.declared.kind.Kind.TheVariants.{Note}
+use Rattle.core_pages.specs.volap_cell.specs.declared.kind.Kind.TheVariants.{Note}
 use Rattle.seeded_run.proofs.works.go_on_at_desk.Goals as goal
 
 pub make_instead-requires-clause-may : goal.make_instead-requires-clause-may

@@ -1,10 +1,10 @@
 use Rattle.std.proofs.Common.{◌∙◌, ap, refl, subst, sym}
 use Rattle.core_due.specs.{Works.work_due_kind, WorksReady.{IsWorkReady, MaySplit}, declared.works.WorkDue.WorkDue}
 use Rattle.core_due.specs.declared.works.WorkDue.TheVariants.{Shows}
-use Rattle.core_steps.specs.Jobs.{job_kind}
+use Rattle.core_due.specs.core_steps.specs.Jobs.{job_kind}
 use Rattle.seeded_run.specs.{Arms.GoesOnWithCommand, Drives.MayGiveWay}
 use Rattle.seeded_run.proofs.{GivesWay.{goes-on-from, note-made, page-stops, split-gives-way, split-may, split-shape}, States.{made-so, may-then, same-items, same-itself}}
-use Rattle.volap_cell.specs.declared.kind.Kind.{Kind}
+use Rattle.core_pages.specs.volap_cell.specs.declared.kind.Kind.{Kind}
 use Rattle.seeded_run.proofs.works.go_on_with_work.Goals as goal
 
 pub go_on_with_job-requires-in-Splits-clause-may : goal.go_on_with_job-requires-in-Splits-clause-may

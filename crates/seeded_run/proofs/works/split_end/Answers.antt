@@ -1,8 +1,8 @@
 use Rattle.std.proofs.Common.{◌≡◌, Some}
 use Rattle.core_due.specs.Splits.{split_of}
-use Rattle.core_steps.specs.declared.jobs.JobStep.{JobStep}
+use Rattle.core_due.specs.core_steps.specs.declared.jobs.JobStep.{JobStep}
 use Rattle.seeded_run.proofs.{GivesWay.two-spares, States.of-lent}
-use Rattle.volap_cell.specs.Values.{actor_of}
+use Rattle.core_pages.specs.volap_cell.specs.Values.{actor_of}
 use Rattle.seeded_run.proofs.works.split_end.Goals as goal
 
 pub split_of-requires : goal.split_of-requires

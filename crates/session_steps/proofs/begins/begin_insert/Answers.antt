@@ -1,13 +1,13 @@
 use Rattle.std.proofs.Common.{◌∙◌, ℤ, ap, subst, sym, arith, rules, to_z, of_z, w64}
 use Rattle.std.proofs.lemmas.Int.{to_z-of_z}
 use Rattle.std.specs.Prelude.{is_some}
-use Rattle.core_steps.specs.declared.begins.BeginStep.TheVariants.{Insert}
+use Rattle.part_steps.specs.core_steps.specs.declared.begins.BeginStep.TheVariants.{Insert}
 use Rattle.part_steps.proofs.Keeping.{begin-kept}
 use Rattle.session_steps.proofs.{Beginning.{began-at, insert-begun}, Servers.{books-still, insert-due}}
-use Rattle.seat_steps.proofs.{Since.{as-before, as-err, before-unchanged, unchanged, unchanged-on}, WithLedger.up-one}
+use Rattle.part_steps.specs.seat_steps.proofs.{Since.{as-before, as-err, before-unchanged, unchanged, unchanged-on}, WithLedger.up-one}
 use Rattle.session_steps.specs.Begins.{HasBegunInsert}
-use Rattle.volap_cell.specs.ImageKinds.{IsFree}
-use Rattle.volap_cell.specs.Values.{ActorValue}
+use Rattle.part_steps.specs.volap_cell.specs.ImageKinds.{IsFree}
+use Rattle.part_steps.specs.volap_cell.specs.Values.{ActorValue}
 use Rattle.session_steps.proofs.begins.begin_insert.Goals as goal
 
 pub make_booked-requires-clause-held : goal.make_booked-requires-clause-held

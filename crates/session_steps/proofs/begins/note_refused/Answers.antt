@@ -1,9 +1,9 @@
 use Rattle.std.proofs.Common.{◌∙◌, ap}
-use Rattle.core_steps.specs.declared.notes.NoteStep.TheVariants.{Refused}
+use Rattle.part_steps.specs.core_steps.specs.declared.notes.NoteStep.TheVariants.{Refused}
 use Rattle.part_steps.proofs.Keeping.{note-kept}
 use Rattle.session_steps.proofs.{Beginning.refused-told, Servers.refused-due}
-use Rattle.seat_steps.proofs.{Since.{map-ok, nothing-told, still-unchanged}, WithLedger.up-none}
-use Rattle.volap_cell.specs.Values.{ActorValue}
+use Rattle.part_steps.specs.seat_steps.proofs.{Since.{map-ok, nothing-told, still-unchanged}, WithLedger.up-none}
+use Rattle.part_steps.specs.volap_cell.specs.Values.{ActorValue}
 use Rattle.session_steps.proofs.begins.note_refused.Goals as goal
 
 pub make_booked-requires-clause-held : goal.make_booked-requires-clause-held

@@ -1,5 +1,5 @@
 use Rattle.std.proofs.Common.{[], refl}
-use Rattle.core_due.specs.Look.{setting_by}
+use Rattle.part_steps.specs.core_due.specs.Look.{setting_by}
 use Rattle.session_steps.proofs.Servers.{books-are}
 use Rattle.session_steps.proofs.books.books_of.Goals as goal
 

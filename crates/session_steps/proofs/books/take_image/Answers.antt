@@ -1,6 +1,6 @@
 use Rattle.std.proofs.Common.{◌∙◌, ℕ, ◌<◌, List, [], ◌∷◌, ◌++◌, length, Option, Some, ap, subst, sym}
 use Rattle.session_steps.proofs.Servers.{places-are}
-use Rattle.seat_steps.proofs.WithLedger.{held-below, one-below, order-image}
+use Rattle.part_steps.specs.seat_steps.proofs.WithLedger.{held-below, one-below, order-image}
 use Rattle.turn_table.proofs.Numbered.{find_else, none_same}
 use Rattle.turn_table.specs.{Numbered.value_of, Seat.IsInOrder}
 use Rattle.session_steps.proofs.books.take_image.Goals as goal

@@ -1,8 +1,8 @@
 use Rattle.std.proofs.Common.{◌≡◌, ◌∙◌, ℕ, ◌<◌, true, false, ap, arith, sym, subst}
-use Rattle.core_steps.specs.Places.{one_at}
+use Rattle.part_steps.specs.core_steps.specs.Places.{one_at}
 use Rattle.session_steps.proofs.{Emptied.{give-asked, give-kept, give-makes, stays-empty, stock-there}, OneHeld.{HasOne, as-made, at-one, one-becomes, one-count, same-actor}}
 use Rattle.turn_table.specs.Seat.{cell_count}
-use Rattle.volap_cell.specs.{Setting.{ledger_cell, stock_cell}, Values.ActorValue}
+use Rattle.part_steps.specs.volap_cell.specs.{Setting.{ledger_cell, stock_cell}, Values.ActorValue}
 use Rattle.session_steps.proofs.coming.empty_purse.Goals as goal
 
 pub returns-then-is_spent : goal.returns-then-is_spent

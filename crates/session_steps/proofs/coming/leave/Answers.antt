@@ -1,7 +1,7 @@
 use Rattle.std.proofs.Common.{◌∙◌, false, ap, arith}
-use Rattle.core_steps.specs.Places.{one_at}
+use Rattle.part_steps.specs.core_steps.specs.Places.{one_at}
 use Rattle.session_steps.proofs.{Counted.{goes-asked, count-kept, count-makes, desk-apart}, OneHeld.{HasOne, as-made, at-one, one-becomes, one-count, same-actor}}
-use Rattle.volap_cell.specs.Values.{ActorValue}
+use Rattle.part_steps.specs.volap_cell.specs.Values.{ActorValue}
 use Rattle.session_steps.proofs.coming.leave.Goals as goal
 
 pub books_of-desk-requires-clause-session : goal.books_of-desk-requires-clause-session

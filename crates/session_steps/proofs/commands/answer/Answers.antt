@@ -1,11 +1,11 @@
 use Rattle.std.proofs.Common.{◌∙◌, [], ap, refl, sym, subst, arith}
-use Rattle.core_steps.specs.{Books.{book_asks, book_places}, declared.books.BookStep.TheVariants.Answer}
-use Rattle.seat_steps.proofs.WithLedger.{first-there, up-one}
+use Rattle.part_steps.specs.core_steps.specs.{Books.{book_asks, book_places}, declared.books.BookStep.TheVariants.Answer}
+use Rattle.part_steps.specs.seat_steps.proofs.WithLedger.{first-there, up-one}
 use Rattle.session_steps.proofs.{Since.open-since, Sums.can-sum}
-use Rattle.seat_steps.specs.{Booked.{IsDue, IsUnchanged}, Floors.IsSeated, declared.floor.Player.Player}
+use Rattle.part_steps.specs.seat_steps.specs.{Booked.{IsDue, IsUnchanged}, Floors.IsSeated, declared.floor.Player.Player}
 use Rattle.session_steps.specs.Books.{IsEndBy}
 use Rattle.session_steps.specs.declared.commands.End.TheVariants as end
-use Rattle.volap_cell.specs.Values.{actor_of}
+use Rattle.part_steps.specs.volap_cell.specs.Values.{actor_of}
 use Rattle.session_steps.proofs.commands.answer.Goals as goal
 
 pub sum_at-agg-requires-clause-held : goal.sum_at-agg-requires-clause-held

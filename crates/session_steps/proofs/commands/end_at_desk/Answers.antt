@@ -1,10 +1,10 @@
 use Rattle.std.proofs.Common.{◌≡◌, ◌∙◌, ℕ, subst}
-use Rattle.core_steps.specs.{Books.{book_asks, book_places}, declared.books.BookStep.BookStep}
-use Rattle.core_steps.specs.declared.books.BookStep.TheVariants.{Ack, FailRouted}
+use Rattle.part_steps.specs.core_steps.specs.{Books.{book_asks, book_places}, declared.books.BookStep.BookStep}
+use Rattle.part_steps.specs.core_steps.specs.declared.books.BookStep.TheVariants.{Ack, FailRouted}
 use Rattle.session_steps.proofs.Servers.{places-are}
-use Rattle.seat_steps.proofs.{Since.{unchanged, unchanged-on}, WithLedger.{due-still, ledger-off}}
+use Rattle.part_steps.specs.seat_steps.proofs.{Since.{unchanged, unchanged-on}, WithLedger.{due-still, ledger-off}}
 use Rattle.session_steps.specs.Books.{EndsAtDesk}
-use Rattle.seat_steps.specs.Booked.{IsDue}
+use Rattle.part_steps.specs.seat_steps.specs.Booked.{IsDue}
 use Rattle.session_steps.proofs.commands.end_at_desk.Goals as goal
 
 ack-is : (desk image d i : ℕ) (step : BookStep) → step ≡ Ack d i → EndsAtDesk desk image step → step ≡ Ack desk image

@@ -1,12 +1,12 @@
 use Rattle.std.proofs.Common.{◌≡◌, ◌∙◌, false, ap, refl}
-use Rattle.core_steps.specs.{Books.book_may_fail, declared.books.BookStep.BookStep}
-use Rattle.core_steps.specs.declared.books.BookStep.TheVariants as book
+use Rattle.part_steps.specs.core_steps.specs.{Books.book_may_fail, declared.books.BookStep.BookStep}
+use Rattle.part_steps.specs.core_steps.specs.declared.books.BookStep.TheVariants as book
 use Rattle.part_steps.proofs.Keeping.{book-kept}
 use Rattle.session_steps.proofs.{Ending.ends-by, Since.ended-since}
-use Rattle.seat_steps.specs.declared.floor.Player.{Player}
+use Rattle.part_steps.specs.seat_steps.specs.declared.floor.Player.{Player}
 use Rattle.session_steps.specs.{Books.IsEndBy, declared.commands.End.End}
-use Rattle.volap_cell.specs.Values.{ActorValue}
-use Rattle.volap_turns.proofs.Turned.{when-ok}
+use Rattle.part_steps.specs.volap_cell.specs.Values.{ActorValue}
+use Rattle.part_steps.specs.volap_turns.proofs.Turned.{when-ok}
 use Rattle.session_steps.proofs.commands.end_by.Goals as goal
 
 -- no end takes memory

@@ -1,6 +1,6 @@
 use Rattle.std.proofs.Common.{refl, arith}
 use Rattle.session_steps.proofs.{DuesOpen.unrouted-due, Servers.books-still, Since.open-since}
-use Rattle.seat_steps.proofs.{Since.{unchanged, unchanged-on}, WithLedger.up-one}
+use Rattle.part_steps.specs.seat_steps.proofs.{Since.{unchanged, unchanged-on}, WithLedger.up-one}
 use Rattle.session_steps.proofs.commands.fail_unrouted.Goals as goal
 
 pub end_by-requires-clause-opened : goal.end_by-requires-clause-opened

@@ -1,11 +1,11 @@
 use Rattle.std.proofs.Common.{◌∙◌, ℕ, List, [], ◌∷◌, Option, Some, sym, subst, ap, arith}
-use Rattle.core_steps.specs.{Books.book_places, declared.books.BookStep.TheVariants.Route}
+use Rattle.part_steps.specs.core_steps.specs.{Books.book_places, declared.books.BookStep.TheVariants.Route}
 use Rattle.part_steps.proofs.Keeping.{book-kept}
 use Rattle.session_steps.proofs.{CommandsMade.route-further, Servers.places-are, Since.open-still}
-use Rattle.seat_steps.proofs.{HeldLedger.seen-same, Since.{as-before, map-err, map-ok, refused-unchanged, unchanged, unchanged-on}, WithLedger.{above-none, due-asked, due-at, due-still, few-held, ledger-off}}
+use Rattle.part_steps.specs.seat_steps.proofs.{HeldLedger.seen-same, Since.{as-before, map-err, map-ok, refused-unchanged, unchanged, unchanged-on}, WithLedger.{above-none, due-asked, due-at, due-still, few-held, ledger-off}}
 use Rattle.turn_table.proofs.Numbered.{find_else, none_same, starts_self}
 use Rattle.turn_table.specs.Numbered.{Extends, numbers_of, value_of}
-use Rattle.volap_cell.specs.Values.{ActorValue}
+use Rattle.part_steps.specs.volap_cell.specs.Values.{ActorValue}
 use Rattle.session_steps.proofs.commands.lay.Goals as goal
 
 pub make-requires-clause-few : goal.make-requires-clause-few

@@ -1,9 +1,9 @@
 use Rattle.std.proofs.Common.{◌∙◌, [], sym, subst, ap}
-use Rattle.core_steps.specs.{Books.{book_asks, book_places}, declared.books.BookStep.TheVariants.Route}
+use Rattle.part_steps.specs.core_steps.specs.{Books.{book_asks, book_places}, declared.books.BookStep.TheVariants.Route}
 use Rattle.session_steps.proofs.{DuesOpen.route-due, Servers.books-still, Since.open-since}
-use Rattle.seat_steps.proofs.{Since.{before-unchanged, looked, unchanged, unchanged-on}, WithLedger.first-there}
-use Rattle.seat_steps.specs.{Booked.IsDue, Floors.IsSeated, declared.floor.Player.Player}
-use Rattle.volap_cell.specs.Values.{ActorValue}
+use Rattle.part_steps.specs.seat_steps.proofs.{Since.{before-unchanged, looked, unchanged, unchanged-on}, WithLedger.first-there}
+use Rattle.part_steps.specs.seat_steps.specs.{Booked.IsDue, Floors.IsSeated, declared.floor.Player.Player}
+use Rattle.part_steps.specs.volap_cell.specs.Values.{ActorValue}
 use Rattle.session_steps.proofs.commands.route.Goals as goal
 
 pub is_empty_at-requires-clause-held : goal.is_empty_at-requires-clause-held

@@ -1,7 +1,7 @@
 use Rattle.std.proofs.Common.{◌∙◌, [], sym, subst, ap}
 use Rattle.session_steps.proofs.{DuesOpen.by-parts, Servers.books-still, Since.open-since}
-use Rattle.seat_steps.proofs.{Since.{looked, unchanged}, WithLedger.first-there}
-use Rattle.seat_steps.specs.{Floors.IsSeated, declared.floor.Player.Player}
+use Rattle.part_steps.specs.seat_steps.proofs.{Since.{looked, unchanged}, WithLedger.first-there}
+use Rattle.part_steps.specs.seat_steps.specs.{Floors.IsSeated, declared.floor.Player.Player}
 use Rattle.session_steps.specs.Books.{IsDueBy}
 use Rattle.session_steps.proofs.commands.see_desk.Goals as goal
 

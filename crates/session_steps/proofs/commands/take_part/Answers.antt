@@ -1,11 +1,11 @@
 use Rattle.std.proofs.Common.{ℕ, List, Option, ap, arith, refl, subst, sym}
-use Rattle.core_steps.specs.{Parts.part_places, declared.parts.PartStep.TheVariants.TakePart}
+use Rattle.part_steps.specs.core_steps.specs.{Parts.part_places, declared.parts.PartStep.TheVariants.TakePart}
 use Rattle.part_steps.proofs.Keeping.{take-kept}
-use Rattle.seat_steps.proofs.{HeldLedger.seen-same, WithLedger.{due-asked, due-at, few-held, ledger-off}}
+use Rattle.part_steps.specs.seat_steps.proofs.{HeldLedger.seen-same, WithLedger.{due-asked, due-at, few-held, ledger-off}}
 use Rattle.session_steps.proofs.{CommandsMade.take-further, QueryParts.takes-unread, Since.open-still}
 use Rattle.turn_table.proofs.Numbered.{starts_self}
 use Rattle.turn_table.specs.Numbered.{Extends, numbers_of}
-use Rattle.volap_turns.proofs.Turned.{when-ok}
+use Rattle.part_steps.specs.volap_turns.proofs.Turned.{when-ok}
 use Rattle.session_steps.proofs.commands.take_part.Goals as goal
 
 pub make-requires-clause-few : goal.make-requires-clause-few

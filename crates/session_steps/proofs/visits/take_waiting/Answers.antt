@@ -1,9 +1,9 @@
 use Rattle.std.proofs.Common.{◌≡◌, ◌∙◌, Some, refl, subst, ap}
-use Rattle.core_steps.specs.declared.books.BookStep.TheVariants.{FailQuery}
+use Rattle.part_steps.specs.core_steps.specs.declared.books.BookStep.TheVariants.{FailQuery}
 use Rattle.session_steps.proofs.{CommandsMade.one-command, Servers.{books-still, places-are}}
 use Rattle.session_steps.specs.Books.{IsDueBy, fails_by}
-use Rattle.volap_cell.specs.{Values.{ActorValue, actor_of}, declared.command.Command.Command}
-use Rattle.volap_cell.specs.declared.command.Work.TheVariants.{Query}
+use Rattle.part_steps.specs.volap_cell.specs.{Values.{ActorValue, actor_of}, declared.command.Command.Command}
+use Rattle.part_steps.specs.volap_cell.specs.declared.command.Work.TheVariants.{Query}
 use Rattle.session_steps.proofs.visits.take_waiting.Goals as goal
 
 pub see_desk-requires-clause-laid : goal.see_desk-requires-clause-laid

@@ -1,10 +1,10 @@
 use Rattle.std.proofs.Common.{arith}
-use Rattle.core_steps.specs.declared.trees.TreeStep.TheVariants.{VisitBlock}
+use Rattle.part_steps.specs.core_steps.specs.declared.trees.TreeStep.TheVariants.{VisitBlock}
 use Rattle.part_steps.proofs.{Keeping.tree-kept, PartsMade.{tree-asked, tree-few}}
 use Rattle.session_steps.proofs.{OneHeld.as-made, Visiting.{block-at, can-try, has-visited, reads, room-still, stands-still, still-sure}}
-use Rattle.seat_steps.proofs.Since.{as-before, as-err, unchanged}
+use Rattle.part_steps.specs.seat_steps.proofs.Since.{as-before, as-err, unchanged}
 use Rattle.session_steps.proofs.visits.try_visit.Goals as goal
-use Rattle.volap_cell.specs.Values.{actor_of}
+use Rattle.part_steps.specs.volap_cell.specs.Values.{actor_of}
 
 pub try_take-requires-clause-cell : goal.try_take-requires-clause-cell
 try_take-requires-clause-cell c = (can-try c.args.floor.now c.args.player.now c.requires.stands c.args.block (reads (actor_of c.args.player.now.actor) c.args.block c.requires.noted)).within

@@ -1,6 +1,6 @@
 use Rattle.std.proofs.{Common.{◌≡◌, ℕ, ◌+◌, ◌-◌, ◌++◌, List, [], map, length, drop, sym, ap, ◌∙◌, subst, arith, length-append}, lemmas.List.{take_all, take_rest}, lemmas.List.Sorted.All-permutation}
 use Rattle.dim_hierarchy.specs.{Rows.IsRowOf, declared.row.Row.Row}
-use Rattle.link_descent.specs.declared.entered.Fresh.{Fresh}
+use Rattle.tree_shape.specs.link_descent.specs.declared.entered.Fresh.{Fresh}
 use Rattle.shard_plan.specs.Building.{leaf_rows, leaves_for, cells_for, levels_for, levels_of}
 use Rattle.tree_shape.specs.Forest.{all_rows}
 use Rattle.std.specs.{List.Sorted.IsSortedBy, Prelude.{Contains, IsPermutation}}

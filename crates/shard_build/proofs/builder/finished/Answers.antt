@@ -1,5 +1,5 @@
 use Rattle.std.proofs.Common.{get_or, ◌≡◌, List, subst}
-use Rattle.link_descent.specs.declared.entered.Fresh.{Fresh}
+use Rattle.tree_shape.specs.link_descent.specs.declared.entered.Fresh.{Fresh}
 use Rattle.shard_build.specs.Building.{IsCountable}
 use Rattle.shard_build.proofs.Lists.{all-at}
 use Rattle.shard_build.proofs.builder.finished.Goals as goal

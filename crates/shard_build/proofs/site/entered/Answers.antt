@@ -1,5 +1,5 @@
 use Rattle.std.proofs.{Common.{[], ◌∷◌, take, subst, arith}, lemmas.List.take_more}
-use Rattle.link_descent.specs.declared.entered.Fresh.{Fresh}
+use Rattle.tree_shape.specs.link_descent.specs.declared.entered.Fresh.{Fresh}
 use Rattle.shard_build.specs.Building.{IsEntryTo}
 use Rattle.shard_build.proofs.Lists.{zip-append}
 use Rattle.shard_build.proofs.site.entered.Goals as goal

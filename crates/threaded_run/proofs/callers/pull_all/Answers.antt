@@ -1,7 +1,7 @@
 use Rattle.std.proofs.Common.{◌∙◌, [], ◌∷◌, ap, subst}
 use Rattle.hall_admin.specs.Callers.{CallerValue}
 use Rattle.session_runs.specs.Sessions.{BeginsNothing, DoesInTurn, stream_of}
-use Rattle.seat_steps.proofs.Since.{as-err}
+use Rattle.hall_hands.specs.seat_steps.proofs.Since.{as-err}
 use Rattle.threaded_run.proofs.Turns.{does-first, does-next}
 use Rattle.threaded_run.proofs.callers.pull_all.Goals as goal
 

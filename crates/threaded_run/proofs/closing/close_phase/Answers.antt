@@ -1,11 +1,11 @@
 use Rattle.std.proofs.Common.{◌∙◌, ℕ, [], ◌∷◌, sym, subst}
 use Rattle.std.specs.Prelude.{OnErr, OnOk}
-use Rattle.actor_run.specs.Wholes.{AddsNothing, AreToldBy, EndsIn}
+use Rattle.hall_hands.specs.actor_run.specs.Wholes.{AddsNothing, AreToldBy, EndsIn}
 use Rattle.row_ledger.specs.declared.{event.Event.TheVariants.Ended, settings.{Call.TheVariants.Barrier, How.TheVariants.Fine}}
 use Rattle.script_form.specs.declared.script.Command.TheVariants.{Control}
 use Rattle.session_runs.specs.Sessions.{BeginsNothing, EachDoes}
 use Rattle.threaded_run.proofs.WholeCalls.{all-nothing, barrier-done, map-err, map-ok, page-done, settle-done}
-use Rattle.whole_steps.specs.declared.tells.Paged.{Paged}
+use Rattle.hall_hands.specs.whole_steps.specs.declared.tells.Paged.{Paged}
 use Rattle.threaded_run.proofs.closing.close_phase.Goals.{in-NotBegun-told, in_default-told}
 use Rattle.threaded_run.proofs.closing.close_phase.Goals as goal
 

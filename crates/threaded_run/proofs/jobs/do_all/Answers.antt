@@ -1,6 +1,6 @@
 use Rattle.std.proofs.Common.{◌≡◌, ◌∙◌, ap, subst, sym}
 use Rattle.std.specs.Prelude.{OnErr, OnOk}
-use Rattle.actor_run.specs.Sessions.{SessionValue, session_of}
+use Rattle.hall_hands.specs.actor_run.specs.Sessions.{SessionValue, session_of}
 use Rattle.session_runs.specs.Sessions.{DoesFirst, DoesInTurn, stream_of}
 use Rattle.threaded_run.proofs.Coming.{came-by, session-back}
 use Rattle.threaded_run.specs.Streams.{AllFit}

@@ -4,7 +4,7 @@ use Rattle.hall_admin.specs.Callers.{CallerValue, caller_of}
 use Rattle.session_runs.specs.Sessions.{DoesFirst, DoesInTurn, stream_of}
 use Rattle.threaded_run.proofs.Coming.{came-by, caller-back, first-caller}
 use Rattle.threaded_run.specs.Streams.{AllFit}
-use Rattle.volap_cell.specs.declared.role.Role.TheVariants.{Puller}
+use Rattle.script_roles.specs.volap_cell.specs.declared.role.Role.TheVariants.{Puller}
 use Rattle.threaded_run.proofs.jobs.pull.Goals as goal
 
 pub pull_all-done-requires-clause-fits : goal.pull_all-done-requires-clause-fits

@@ -1,7 +1,7 @@
 use Rattle.std.proofs.Common.{ℕ, false, subst}
 use Rattle.threaded_run.proofs.Coming.{back-behind}
 use Rattle.threaded_run.specs.Jobs.{IsBack, IsReadyAs}
-use Rattle.volap_cell.specs.declared.role.Role.{Role}
+use Rattle.script_roles.specs.volap_cell.specs.declared.role.Role.{Role}
 use Rattle.threaded_run.proofs.jobs.work.Goals as goal
 
 pub returns-in-Session : goal.returns-in-Session

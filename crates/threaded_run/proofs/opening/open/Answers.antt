@@ -1,6 +1,6 @@
 use Rattle.dim_hierarchy.specs.declared.hierarchy.Hierarchy.{Hierarchy}
 use Rattle.threaded_run.proofs.Opened.{are-phased, none-begun, script-hall}
-use Rattle.whole_steps.proofs.Telling.{if-ok-on}
+use Rattle.hall_hands.specs.whole_steps.proofs.Telling.{if-ok-on}
 use Rattle.threaded_run.proofs.opening.open.Goals as goal
 
 pub open-requires : goal.open-requires

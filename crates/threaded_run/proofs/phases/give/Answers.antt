@@ -1,7 +1,7 @@
 use Rattle.std.proofs.Common.{◌∙◌, sym, ap, subst}
-use Rattle.actor_run.specs.Passes.{IsPass, IsPassOf, PassValue, pass_of}
+use Rattle.hall_hands.specs.actor_run.specs.Passes.{IsPass, IsPassOf, PassValue, pass_of}
 use Rattle.list_words.proofs.Elements.{Some-same}
-use Rattle.seat_steps.specs.declared.floor.Player.{Player}
+use Rattle.hall_hands.specs.seat_steps.specs.declared.floor.Player.{Player}
 use Rattle.threaded_run.specs.Jobs.{HasCome, IsBack}
 use Rattle.threaded_run.proofs.phases.give.Goals as goal
 

@@ -1,5 +1,5 @@
 use Rattle.std.proofs.Common.{ℕ, ◌≡◌, ◌≤◌, false, List, length, slice_get}
-use Rattle.actor_run.specs.Passes.{PassesValue}
+use Rattle.hall_hands.specs.actor_run.specs.Passes.{PassesValue}
 use Rattle.script_form.specs.declared.script.Command.{Command}
 use Rattle.threaded_run.specs.{Jobs.AreJobsBack, Phases.HasGivenSome}
 use Rattle.threaded_run.proofs.phases.give_all.Given as goal

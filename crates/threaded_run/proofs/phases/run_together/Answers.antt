@@ -1,7 +1,7 @@
 use Rattle.std.proofs.Common.{◌≡◌, ◌∙◌, ◌+◌, ℕ, Bool, false, List, length, sym, ap, subst}
 use Rattle.threaded_run.proofs.Passing.{all-back, each-came, none-given}
 use Rattle.threaded_run.specs.{Jobs.{AreJobsReady, HasCome}, Phases.{HasGivenSome}, declared.threads.Job.Job}
-use Rattle.volap_cell.specs.Setting.{actor_count}
+use Rattle.script_roles.specs.volap_cell.specs.Setting.{actor_count}
 use Rattle.threaded_run.proofs.phases.run_together.Goals as goal
 
 pub do_all_jobs-requires-clause-ready : goal.do_all_jobs-requires-clause-ready

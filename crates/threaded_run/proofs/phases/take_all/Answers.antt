@@ -1,8 +1,8 @@
 use Rattle.std.proofs.Common.{◌∙◌, ◌+◌, ◌<◌, ◌≤◌, ℕ, List, length, sym, ap, subst, arith, length-append}
-use Rattle.actor_run.specs.Passes.{HasTaken, IsOut}
+use Rattle.hall_hands.specs.actor_run.specs.Passes.{HasTaken, IsOut}
 use Rattle.threaded_run.proofs.Passing.{none-taken, not-out, numbered-pass, one-taken}
 use Rattle.threaded_run.specs.{Phases.HasTakenSome, declared.threads.Job.Job}
-use Rattle.volap_cell.specs.Setting.{actor_count}
+use Rattle.script_roles.specs.volap_cell.specs.Setting.{actor_count}
 use Rattle.threaded_run.proofs.phases.take_all.Goals as goal
 
 pub loop-number-init : goal.loop-number-init

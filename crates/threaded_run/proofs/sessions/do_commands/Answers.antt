@@ -1,8 +1,8 @@
 use Rattle.std.proofs.Common.{◌∙◌, [], ◌∷◌, ap, subst}
-use Rattle.actor_run.specs.Sessions.{SessionValue}
-use Rattle.seat_steps.specs.declared.floor.Floor.{Floor}
+use Rattle.hall_hands.specs.actor_run.specs.Sessions.{SessionValue}
+use Rattle.hall_hands.specs.seat_steps.specs.declared.floor.Floor.{Floor}
 use Rattle.session_runs.specs.Sessions.{DoesInTurn, stream_of}
-use Rattle.seat_steps.proofs.Since.{as-err}
+use Rattle.hall_hands.specs.seat_steps.proofs.Since.{as-err}
 use Rattle.threaded_run.proofs.Turns.{does-first, does-next}
 use Rattle.threaded_run.proofs.sessions.do_commands.Goals as goal
 

@@ -1,6 +1,6 @@
 use Rattle.std.proofs.Common.{ℕ, ℤ, subst, rules}
-use Rattle.actor_run.proofs.Measured.{measured}
-use Rattle.actor_run.specs.Sessions.{DoesTryInsert}
+use Rattle.hall_hands.specs.actor_run.proofs.Measured.{measured}
+use Rattle.hall_hands.specs.actor_run.specs.Sessions.{DoesTryInsert}
 use Rattle.script_form.specs.declared.script.Command.TheVariants.{Insert}
 use Rattle.session_runs.specs.Sessions.{DoesCommand}
 use Rattle.threaded_run.proofs.{Done.insert-done, Turns.does-one}

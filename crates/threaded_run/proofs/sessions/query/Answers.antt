@@ -1,5 +1,5 @@
 use Rattle.std.proofs.Common.{ℕ, subst}
-use Rattle.actor_run.specs.Sessions.{DoesTryQuery}
+use Rattle.hall_hands.specs.actor_run.specs.Sessions.{DoesTryQuery}
 use Rattle.script_form.specs.declared.script.Command.TheVariants.{Query}
 use Rattle.session_runs.specs.Sessions.{DoesCommand}
 use Rattle.threaded_run.proofs.{Done.query-done, Turns.does-one}

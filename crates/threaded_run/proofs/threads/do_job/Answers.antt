@@ -1,6 +1,6 @@
 use Rattle.std.proofs.Common.{◌≡◌, ◌∙◌, sym, subst}
 use Rattle.list_words.proofs.Elements.{Some-same}
-use Rattle.seat_steps.specs.declared.floor.Player.{Player}
+use Rattle.hall_hands.specs.seat_steps.specs.declared.floor.Player.{Player}
 use Rattle.threaded_run.specs.Jobs.{IsReady}
 use Rattle.threaded_run.proofs.threads.do_job.Goals as goal
 

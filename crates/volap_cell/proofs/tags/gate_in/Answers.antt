@@ -1,5 +1,5 @@
 use Rattle.std.proofs.Common.{Box, Global, ◌∙◌, ap, refl, sym}
-use Rattle.shard_store.specs.declared.gate.Gate.{Gate}
+use Rattle.shard_build.specs.shard_store.specs.declared.gate.Gate.{Gate}
 use Rattle.volap_cell.specs.declared.cell.Cell.TheVariants as cell
 use Rattle.volap_cell.proofs.tags.gate_in.Goals as goal
 

@@ -3,7 +3,7 @@ use mathlib.Core.Option.{some}
 use Rattle.core_steps.specs.Places.{things, values}
 use Rattle.row_ledger.specs.declared.event.Event.{Event}
 use Rattle.turn_table.specs.{Law.sight, Numbered.{HaveOwnNumbers, after_first, numbers_of, replace, value_of}, Seat.SeatValue, Views.after_commit, declared.view.View.View}
-use Rattle.volap_cell.specs.{Setting.{Setting, ledger_cell}, State.still, Steps.IsHere, Values.actor_of, declared.actor.Actor.Actor, declared.cell.Cell.Cell}
+use Rattle.core_told.specs.volap_cell.specs.{Setting.{Setting, ledger_cell}, State.still, Steps.IsHere, Values.actor_of, declared.actor.Actor.Actor, declared.cell.Cell.Cell}
 use Rattle.volap_turns.specs.{Rows.{AreAt, IsThere, cells_for}, Rule.{Goes, Needs, history_of}}
 use Rattle.volap_turns.proofs.{Ordered.{as-many, made-of, over-held}, Known.{event-of, here-of, setting-after}, Turned.{as-ok, back-same, left-of, same-holds, stepped-holds, when-err, when-ok}}
 use Rattle.volap_turns.proofs.seat_step.step_over.Goals as goal

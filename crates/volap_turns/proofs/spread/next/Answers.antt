@@ -2,7 +2,7 @@ use Rattle.std.proofs.Common.{◌∙◌, ℕ, List, ◌∷◌, ◌++◌, Option,
 use Rattle.core_steps.specs.Places.{thing_at}
 use Rattle.turn_table.specs.Numbered.{value_of}
 use Rattle.turn_table.proofs.Order.{in_front}
-use Rattle.volap_cell.specs.declared.cell.Cell.{Cell}
+use Rattle.core_told.specs.volap_cell.specs.declared.cell.Cell.{Cell}
 use Rattle.volap_turns.proofs.spread.next.Goals as goal
 
 pub returns-in-Some-clause-same : goal.returns-in-Some-clause-same

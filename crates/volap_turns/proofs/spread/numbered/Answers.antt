@@ -1,7 +1,7 @@
 use Rattle.std.proofs.Common.{◌≡◌, ◌∙◌, ◌+◌, ◌≤◌, ℕ, List, [], ◌∷◌, ◌++◌, length, append_assoc, length-append, sym, ap, arith}
 use Rattle.turn_table.specs.Numbered.{numbers_of}
 use Rattle.turn_table.proofs.Seats.{numbers_append}
-use Rattle.volap_cell.specs.declared.cell.Cell.{Cell}
+use Rattle.core_told.specs.volap_cell.specs.declared.cell.Cell.{Cell}
 use Rattle.volap_turns.proofs.Placed.{length-numbers}
 use Rattle.volap_turns.proofs.spread.numbered.Goals as goal
 

@@ -1,10 +1,10 @@
 use Rattle.std.proofs.Common.{◌∙◌, ap}
 use Rattle.call_steps.proofs.CallsDue.{called-asked, ledger-due}
-use Rattle.core_steps.specs.{Notes.note_asks, Places.one_at}
-use Rattle.core_steps.specs.declared.notes.NoteStep.TheVariants.{Called}
-use Rattle.part_steps.proofs.Keeping.{note-kept}
-use Rattle.seat_steps.proofs.{HeldLedger.tells-held, Since.map-ok, WithLedger.up-none}
-use Rattle.volap_cell.specs.{Setting.ledger_cell, Values.ActorValue}
+use Rattle.call_steps.specs.core_steps.specs.{Notes.note_asks, Places.one_at}
+use Rattle.call_steps.specs.core_steps.specs.declared.notes.NoteStep.TheVariants.{Called}
+use Rattle.call_steps.specs.part_steps.proofs.Keeping.{note-kept}
+use Rattle.call_steps.specs.seat_steps.proofs.{HeldLedger.tells-held, Since.map-ok, WithLedger.up-none}
+use Rattle.core_pages.specs.volap_cell.specs.{Setting.ledger_cell, Values.ActorValue}
 use Rattle.whole_steps.proofs.Calling.{alone-called, due-sole}
 use Rattle.whole_steps.specs.Sole.{player}
 use Rattle.whole_steps.proofs.calls.begin_alone.Goals as goal

@@ -1,11 +1,11 @@
 use Rattle.std.proofs.Common.{◌∙◌, ℕ, ◌<◌, List, [], ◌∷◌, ◌++◌, length, Option, Some, ap, sym, subst, arith}
 use Rattle.call_steps.proofs.CallsDue.{asking-asked, both-due}
-use Rattle.core_steps.specs.{Notes.note_asks, Places.two_at}
-use Rattle.core_steps.specs.declared.notes.NoteStep.TheVariants.{Asking}
-use Rattle.part_steps.proofs.Keeping.{note-kept}
-use Rattle.seat_steps.proofs.{HeldLedger.tells-held, Ranks.order-none, WithLedger.up-one}
+use Rattle.call_steps.specs.core_steps.specs.{Notes.note_asks, Places.two_at}
+use Rattle.call_steps.specs.core_steps.specs.declared.notes.NoteStep.TheVariants.{Asking}
+use Rattle.call_steps.specs.part_steps.proofs.Keeping.{note-kept}
+use Rattle.call_steps.specs.seat_steps.proofs.{HeldLedger.tells-held, Ranks.order-none, WithLedger.up-one}
 use Rattle.turn_table.specs.{Numbered.value_of, Seat.{IsInOrder}}
-use Rattle.volap_cell.specs.{Setting.{ledger_cell, registry_cell}, Values.ActorValue, declared.cell.Cell.Cell}
+use Rattle.core_pages.specs.volap_cell.specs.{Setting.{ledger_cell, registry_cell}, Values.ActorValue, declared.cell.Cell.Cell}
 use Rattle.whole_steps.proofs.{Adding.registry-within, Alone.{everyone-of, sole-on}, Calling.{called-before, due-before, due-sole, waited-before}, Turned.none-held}
 use Rattle.whole_steps.specs.Sole.{player}
 use Rattle.whole_steps.proofs.calls.begin_asking.Goals as goal

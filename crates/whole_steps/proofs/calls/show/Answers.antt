@@ -1,9 +1,9 @@
 use Rattle.std.proofs.Common.{◌∙◌, ap, refl}
-use Rattle.core_steps.specs.declared.notes.NoteStep.TheVariants.{Shown}
-use Rattle.part_steps.proofs.Keeping.{note-kept}
-use Rattle.seat_steps.proofs.WithLedger.{up-none}
-use Rattle.volap_cell.specs.Values.{ActorValue}
-use Rattle.volap_turns.proofs.Turned.{when-ok}
+use Rattle.call_steps.specs.core_steps.specs.declared.notes.NoteStep.TheVariants.{Shown}
+use Rattle.call_steps.specs.part_steps.proofs.Keeping.{note-kept}
+use Rattle.call_steps.specs.seat_steps.proofs.WithLedger.{up-none}
+use Rattle.core_pages.specs.volap_cell.specs.Values.{ActorValue}
+use Rattle.call_steps.specs.volap_turns.proofs.Turned.{when-ok}
 use Rattle.whole_steps.proofs.{Calling.{has-shown, show-due}, Known.sees-page}
 use Rattle.whole_steps.specs.Sole.{player}
 use Rattle.whole_steps.proofs.calls.show.Goals as goal

@@ -1,7 +1,7 @@
 use Rattle.std.proofs.Common.{◌≡◌, ◌∙◌, ℕ, ◌<◌, List, length, ap, arith, reverse, subst, sym}
 use Rattle.row_ledger.specs.declared.event.Event.{Event}
 use Rattle.turn_table.specs.{Numbered.value_of, Seat.SeatValue}
-use Rattle.volap_cell.specs.{Setting.ledger_cell, declared.{actor.Actor.Actor, cell.Cell.Cell}}
+use Rattle.core_pages.specs.volap_cell.specs.{Setting.ledger_cell, declared.{actor.Actor.Actor, cell.Cell.Cell}}
 use Rattle.whole_steps.proofs.Turned.{held-alone, history-held, knows-on, none-held, turned-on}
 use Rattle.whole_steps.specs.Seats.{HasTurned, Knows}
 use Rattle.whole_steps.proofs.histories.copy_history.Goals as goal

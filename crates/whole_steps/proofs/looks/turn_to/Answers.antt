@@ -1,7 +1,7 @@
 use Rattle.std.proofs.Common.{◌∙◌, ℕ, ◌<◌, List, length, ap, sym, subst, arith}
 use mathlib.Core.Option.{some}
 use Rattle.turn_table.specs.Numbered.{value_of}
-use Rattle.volap_cell.specs.declared.cell.Cell.{Cell}
+use Rattle.core_pages.specs.volap_cell.specs.declared.cell.Cell.{Cell}
 use Rattle.whole_steps.proofs.Turned.{held-alone, knows-on, none-held, turned-on, within-table}
 use Rattle.whole_steps.proofs.looks.turn_to.Goals as goal
 

@@ -1,12 +1,12 @@
 use Rattle.std.proofs.Common.{◌∙◌, ℕ, List, [], ◌∷◌, ◌++◌, Option, ap, arith, refl, subst, sym}
 use Rattle.std.specs.Prelude.{is_some}
 use Rattle.call_steps.proofs.CallsDue.{pulls-due}
-use Rattle.core_steps.specs.{Books.{book_asks, book_places}, declared.books.BookStep.TheVariants.Sync}
-use Rattle.part_steps.proofs.Keeping.{book-kept}
-use Rattle.seat_steps.proofs.{Since.map-ok, WithLedger.up-two}
-use Rattle.seat_steps.specs.Booked.{IsUpToLedger}
+use Rattle.call_steps.specs.core_steps.specs.{Books.{book_asks, book_places}, declared.books.BookStep.TheVariants.Sync}
+use Rattle.call_steps.specs.part_steps.proofs.Keeping.{book-kept}
+use Rattle.call_steps.specs.seat_steps.proofs.{Since.map-ok, WithLedger.up-two}
+use Rattle.call_steps.specs.seat_steps.specs.Booked.{IsUpToLedger}
 use Rattle.turn_table.specs.Numbered.{numbers_of}
-use Rattle.volap_cell.specs.{Setting.{image_cell, ledger_cell, registry_cell}, Values.ActorValue}
+use Rattle.core_pages.specs.volap_cell.specs.{Setting.{image_cell, ledger_cell, registry_cell}, Values.ActorValue}
 use Rattle.whole_steps.proofs.{Adding.{next-cell, registry-within}, Alone.{everyone-of, sole-on}, Calling.{due-sole, waited-before}, Settling.{can-pull-on, due-turned, has-pulled, pulled-before}, Turned.none-held}
 use Rattle.whole_steps.specs.Sole.{IsDueSole, player}
 use Rattle.whole_steps.proofs.settles.pull.Goals as goal

@@ -1,5 +1,5 @@
 use Rattle.std.proofs.Common.{rules}
-use Rattle.seat_steps.proofs.Since.{as-err}
+use Rattle.call_steps.specs.seat_steps.proofs.Since.{as-err}
 use Rattle.whole_steps.proofs.Settling.{can-pull, none-pulled, pulled-on, waited-on}
 use Rattle.whole_steps.specs.Sole.{player}
 use Rattle.whole_steps.proofs.settles.pull_all.Goals as goal

@@ -1,9 +1,9 @@
 use Rattle.std.proofs.Common.{◌∙◌, ℕ, ◌<◌, List, [], ◌∷◌, ◌++◌, length, Option, Some, ap, arith, subst, sym}
 use Rattle.call_steps.proofs.CallsDue.{off-image}
-use Rattle.seat_steps.proofs.Ranks.{order-more, order-none}
+use Rattle.call_steps.specs.seat_steps.proofs.Ranks.{order-more, order-none}
 use Rattle.turn_table.proofs.Numbered.{find_else}
 use Rattle.turn_table.specs.{Numbered.value_of, Seat.{IsInOrder, cell_count}}
-use Rattle.volap_cell.specs.declared.cell.Cell.{Cell}
+use Rattle.core_pages.specs.volap_cell.specs.declared.cell.Cell.{Cell}
 use Rattle.whole_steps.proofs.Turned.{none-held, turned-on}
 use Rattle.whole_steps.proofs.settles.take_listings.Goals as goal
 

@@ -1,5 +1,5 @@
 use Rattle.row_ledger.specs.declared.settings.Call.TheVariants.{Barrier}
-use Rattle.seat_steps.proofs.Since.{as-err}
+use Rattle.call_steps.specs.seat_steps.proofs.Since.{as-err}
 use Rattle.whole_steps.proofs.{Alone.everyone-of, Paging.{bare-done, ends-bare, not-begun}, Turned.turned-self}
 use Rattle.whole_steps.specs.Sole.{player}
 use Rattle.whole_steps.proofs.tells.call_barrier.Goals as goal

@@ -1,5 +1,5 @@
 use Rattle.std.proofs.Common.{◌∙◌, ap, arith, sym}
-use Rattle.volap_cell.specs.Values.{ActorValue}
+use Rattle.core_pages.specs.volap_cell.specs.Values.{ActorValue}
 use Rattle.whole_steps.proofs.{Alone.everyone-of, Paging.{at-page, can-call-on, ends-unknown, err-of, knows-then, not-begun, of-tree, ok-of, paged-so, stands-on, unknown-so}}
 use Rattle.whole_steps.specs.Sole.{player}
 use Rattle.whole_steps.proofs.tells.call_page.Goals as goal

@@ -1,9 +1,9 @@
 use Rattle.std.proofs.Common.{◌<◌, length, sym, subst}
 use Rattle.row_ledger.specs.declared.event.Event.{Event}
-use Rattle.seat_steps.proofs.Left.{less-without}
+use Rattle.call_steps.specs.seat_steps.proofs.Left.{less-without}
 use Rattle.turn_table.proofs.Numbered.{find_same}
 use Rattle.turn_table.specs.Seat.{SeatValue}
-use Rattle.volap_cell.specs.declared.{actor.Actor.Actor, cell.Cell.Cell}
+use Rattle.core_pages.specs.volap_cell.specs.declared.{actor.Actor.Actor, cell.Cell.Cell}
 use Rattle.whole_steps.proofs.Turned.{gave-everyone, gave-turned, turned-on, turned-self}
 use Rattle.whole_steps.proofs.turns.give_turns.Goals as goal
 

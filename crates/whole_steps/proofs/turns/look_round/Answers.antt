@@ -1,6 +1,6 @@
 use Rattle.std.proofs.Common.{ℕ, ◌<◌, List, length, ap, sym, subst, arith}
 use Rattle.turn_table.specs.Numbered.{value_of}
-use Rattle.volap_cell.specs.declared.cell.Cell.{Cell}
+use Rattle.core_pages.specs.volap_cell.specs.declared.cell.Cell.{Cell}
 use Rattle.whole_steps.proofs.Turned.{knows-next, knows-on, none-held, turned-on}
 use Rattle.whole_steps.proofs.turns.look_round.Goals as goal
 

@@ -1,12 +1,12 @@
 use Rattle.std.proofs.Common.{◌≡◌, sym, ap, subst}
 use Rattle.actor_run.specs.{Cursors.{CursorValue, HasFinished, IsCursor, cursor_of}, Driving.EndsSince, Sessions.session_of}
 use Rattle.actor_run.proofs.CursorOpen.{cursor-answered, cursor-failed, cursor-open, cursor-session, cursor-unacked}
-use Rattle.session_steps.proofs.Servers.{server-below}
+use Rattle.whole_steps.specs.session_steps.proofs.Servers.{server-below}
 use Rattle.actor_run.specs.declared.session.Asked.{Asked as AskedAnswer}
 use Rattle.actor_run.specs.declared.session.Asked.TheVariants as asked
-use Rattle.seat_steps.specs.declared.floor.Floor.{Floor}
-use Rattle.session_steps.specs.declared.commands.End.{End}
-use Rattle.volap_cell.specs.Values.{ActorValue}
+use Rattle.whole_steps.specs.seat_steps.specs.declared.floor.Floor.{Floor}
+use Rattle.whole_steps.specs.session_steps.specs.declared.commands.End.{End}
+use Rattle.whole_steps.specs.volap_cell.specs.Values.{ActorValue}
 use Rattle.actor_run.proofs.cursor.Cursor.finish.Goals as goal
 use Rattle.actor_run.proofs.cursor.Cursor.finish.Goals.{in-Answered, in-Failed}
 

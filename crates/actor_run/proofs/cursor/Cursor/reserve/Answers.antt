@@ -1,8 +1,8 @@
 use Rattle.std.proofs.Common.{◌≡◌, ◌≤◌, ap, subst}
 use Rattle.actor_run.specs.Cursors.{CursorValue, cursor_of}
 use Rattle.actor_run.proofs.CursorSteps.{cursor-reserved, in_place}
-use Rattle.core_tree.specs.ReadDue.{room_to_note}
-use Rattle.volap_cell.specs.Values.{ActorValue}
+use Rattle.whole_steps.specs.core_tree.specs.ReadDue.{room_to_note}
+use Rattle.whole_steps.specs.volap_cell.specs.Values.{ActorValue}
 use Rattle.actor_run.proofs.cursor.Cursor.reserve.Goals as goal
 
 pub invariant_of-self : goal.invariant_of-self

@@ -1,8 +1,8 @@
 use Rattle.std.proofs.Common.{◌∙◌, sym, subst}
 use Rattle.actor_run.specs.Cursors.{CursorValue, HasRoom, WasRefused, cursor_of}
 use Rattle.actor_run.proofs.CursorSteps.{cursor-refused, cursor-visited, if-err}
-use Rattle.seat_steps.specs.{Floors.Stands, declared.floor.Floor.Floor}
-use Rattle.session_steps.specs.Visits.{HasVisited}
+use Rattle.whole_steps.specs.seat_steps.specs.{Floors.Stands, declared.floor.Floor.Floor}
+use Rattle.whole_steps.specs.session_steps.specs.Visits.{HasVisited}
 use Rattle.turn_table.specs.declared.turns.Busy.{Busy}
 use Rattle.actor_run.proofs.cursor.Cursor.try_visit.Goals as goal
 

@@ -1,7 +1,7 @@
 use Rattle.std.proofs.Common.{◌∙◌, ap, refl, subst, sym}
 use Rattle.actor_run.proofs.Gathered.{begun-none, everyone-in, gone-on, here-are, here-view, ledger-in, turned-are}
 use Rattle.actor_run.specs.Passes.{IsPassesOf, PassesValue}
-use Rattle.seat_steps.specs.declared.floor.Floor.{Floor}
+use Rattle.whole_steps.specs.seat_steps.specs.declared.floor.Floor.{Floor}
 use Rattle.actor_run.proofs.hall.Hall.catch_up.Goals as goal
 
 pub copy_history-requires-clause-everyone : goal.copy_history-requires-clause-everyone

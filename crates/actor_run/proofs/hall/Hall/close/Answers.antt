@@ -2,9 +2,9 @@ use Rattle.std.proofs.Common.{◌∙◌, List, Option, sym, ap, subst}
 use Rattle.actor_run.specs.{Halls.HasClosed, Passes.{IsPassesOf, PassesValue, passes_of}}
 use Rattle.actor_run.proofs.Gathered.{here-are, here-view}
 use Rattle.actor_run.proofs.Closing.{are-actors, has-all, has-closed}
-use Rattle.seat_steps.specs.declared.floor.Floor.{Floor}
-use Rattle.volap_cell.specs.declared.actor.Actor.{Actor}
-use Rattle.volap_turns.specs.Wholes.{AreActorsOf}
+use Rattle.whole_steps.specs.seat_steps.specs.declared.floor.Floor.{Floor}
+use Rattle.whole_steps.specs.volap_cell.specs.declared.actor.Actor.{Actor}
+use Rattle.whole_steps.specs.volap_turns.specs.Wholes.{AreActorsOf}
 use Rattle.actor_run.proofs.hall.Hall.close.Goals as goal
 
 pub close-requires-clause-all : goal.close-requires-clause-all

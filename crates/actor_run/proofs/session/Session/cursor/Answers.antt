@@ -1,8 +1,8 @@
 use Rattle.std.proofs.Common.{◌∙◌, ℕ, length, sym, ap, subst}
 use Rattle.actor_run.specs.{Doing.Does, Sessions.{DoesQuery, EndsQuery, IsSession, SessionValue, session_of}}
 use Rattle.actor_run.proofs.CursorOpen.{cursor-kept-for}
-use Rattle.session_steps.proofs.Servers.{server-below}
-use Rattle.seat_steps.specs.declared.floor.Floor.{Floor}
+use Rattle.whole_steps.specs.session_steps.proofs.Servers.{server-below}
+use Rattle.whole_steps.specs.seat_steps.specs.declared.floor.Floor.{Floor}
 use Rattle.actor_run.proofs.session.Session.cursor.Goals as goal
 
 pub bell-bell-requires : goal.bell-bell-requires

@@ -1,8 +1,8 @@
 use Rattle.std.proofs.Common.{sym, subst}
 use Rattle.actor_run.specs.{Passes.{IsPassOf, pass_of}, Sessions.{BecomesPass, IsSession, SessionValue, session_of}}
 use Rattle.actor_run.proofs.PassAndSession.{session-made, session-own, session-pass, still-counted, still-nothing}
-use Rattle.seat_steps.specs.Floors.{Stands}
-use Rattle.seat_steps.specs.declared.floor.Floor.{Floor}
+use Rattle.whole_steps.specs.seat_steps.specs.Floors.{Stands}
+use Rattle.whole_steps.specs.seat_steps.specs.declared.floor.Floor.{Floor}
 use Rattle.actor_run.proofs.session.Session.end.Goals as goal
 
 pub empty_purse-requires-clause-stands : goal.empty_purse-requires-clause-stands

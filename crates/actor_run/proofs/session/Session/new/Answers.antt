@@ -1,7 +1,7 @@
 use Rattle.std.proofs.Common.{sym, subst}
 use Rattle.actor_run.specs.{Passes.{IsPassOf, PassValue}, Sessions.{IsPassFor, IsSession, IsSessionRole, session_of}}
 use Rattle.actor_run.proofs.PassAndSession.{come-free, come-heard, pass-for, pass-nothing, pass-session, pass-stands}
-use Rattle.seat_steps.specs.declared.floor.Floor.{Floor}
+use Rattle.whole_steps.specs.seat_steps.specs.declared.floor.Floor.{Floor}
 use Rattle.actor_run.proofs.session.Session.new.Goals as goal
 
 pub come-requires-clause-stands : goal.come-requires-clause-stands

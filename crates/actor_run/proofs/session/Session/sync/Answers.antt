@@ -1,6 +1,6 @@
 use Rattle.std.proofs.Common.{subst, sym}
 use Rattle.actor_run.specs.{Doing.HasDone, Sessions.{DoesSync, EndsSync, IsSession, SessionValue, session_of}}
-use Rattle.seat_steps.specs.declared.floor.Floor.{Floor}
+use Rattle.whole_steps.specs.seat_steps.specs.declared.floor.Floor.{Floor}
 use Rattle.actor_run.proofs.session.Session.sync.Goals as goal
 
 pub sync-requires : goal.sync-requires

@@ -1,8 +1,8 @@
 use Rattle.std.proofs.Common.{◌∙◌, ℕ, ℤ, length, sym, ap, subst, rules}
 use Rattle.actor_run.specs.{Doing.Does, Sessions.{DoesTryInsert, TriesInsert, IsSession, SessionValue, session_of}}
 use Rattle.actor_run.proofs.Measured.{measured}
-use Rattle.session_steps.proofs.Servers.{server-below}
-use Rattle.seat_steps.specs.declared.floor.Floor.{Floor}
+use Rattle.whole_steps.specs.session_steps.proofs.Servers.{server-below}
+use Rattle.whole_steps.specs.seat_steps.specs.declared.floor.Floor.{Floor}
 use Rattle.actor_run.proofs.session.Session.try_insert.Goals as goal
 
 pub bell-requires : goal.bell-requires

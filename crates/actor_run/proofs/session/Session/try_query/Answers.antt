@@ -1,7 +1,7 @@
 use Rattle.std.proofs.Common.{◌∙◌, ℕ, length, sym, ap, subst}
 use Rattle.actor_run.specs.{Doing.Does, Sessions.{DoesTryQuery, TriesQuery, IsSession, SessionValue, session_of}}
-use Rattle.session_steps.proofs.Servers.{server-below}
-use Rattle.seat_steps.specs.declared.floor.Floor.{Floor}
+use Rattle.whole_steps.specs.session_steps.proofs.Servers.{server-below}
+use Rattle.whole_steps.specs.seat_steps.specs.declared.floor.Floor.{Floor}
 use Rattle.actor_run.proofs.session.Session.try_query.Goals as goal
 
 pub bell-requires : goal.bell-requires

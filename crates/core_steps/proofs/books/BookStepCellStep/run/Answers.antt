@@ -1,6 +1,6 @@
 use Rattle.core_steps.proofs.{BookTold.{asked-two, told-three, told-two}, Quiet.{ack-ends, answer-ends, routed-ends, sync-ends, unrouted-ends}}
 use Rattle.core_steps.specs.declared.books.BookStep.TheVariants as book
-use Rattle.volap_cell.proofs.Outcomes.{on-ok}
+use Rattle.core_shard.specs.volap_cell.proofs.Outcomes.{on-ok}
 use Rattle.core_steps.proofs.books.BookStepCellStep.run.Goals as goal
 
 pub returns-in-Ack-clause-told : goal.returns-in-Ack-clause-told

@@ -1,8 +1,8 @@
 use Rattle.std.proofs.Common.{[], ◌∷◌, refl}
 use Rattle.core_steps.proofs.JobMade.{in-place, seven-went}
 use Rattle.core_steps.specs.declared.jobs.JobStep.TheVariants as job
-use Rattle.volap_cell.specs.{Cells.cell_of, World.change}
-use Rattle.volap_cell.proofs.Outcomes.{on-ok}
+use Rattle.core_shard.specs.volap_cell.specs.{Cells.cell_of, World.change}
+use Rattle.core_shard.specs.volap_cell.proofs.Outcomes.{on-ok}
 use Rattle.core_steps.proofs.jobs.JobStepCellStep.run.Goals as goal
 
 pub returns-in-FinishSplit-clause-went : goal.returns-in-FinishSplit-clause-went

@@ -2,7 +2,7 @@ use Rattle.std.proofs.Common.{Option, Some, sym, subst}
 use Rattle.core_steps.proofs.Quiet.{noted-ends}
 use Rattle.core_steps.specs.{Notes.{note_asks, note_tells}, Places.{held, values}, declared.notes.NoteStep.NoteStep}
 use Rattle.core_steps.specs.declared.notes.NoteStep.TheVariants as note
-use Rattle.volap_cell.specs.{Values.actor_of, declared.cell.Cell.Cell}
+use Rattle.core_shard.specs.volap_cell.specs.{Values.actor_of, declared.cell.Cell.Cell}
 use Rattle.core_steps.proofs.notes.NoteStepCellStep.run.Goals as goal
 
 pub returns-in-Ended-clause-told : goal.returns-in-Ended-clause-told

@@ -1,7 +1,7 @@
 use Rattle.std.proofs.Common.{ℕ, [], ◌∷◌, subst}
 use Rattle.core_steps.proofs.ReuseMade.{three-went, two-went}
 use Rattle.core_steps.specs.declared.reuses.ReuseStep.TheVariants as reuse
-use Rattle.volap_cell.specs.{Cells.cell_of, Steps.Makes, Values.actor_of, World.change, declared.kind.Kind.TheVariants.Reuse}
+use Rattle.core_shard.specs.volap_cell.specs.{Cells.cell_of, Steps.Makes, Values.actor_of, World.change, declared.kind.Kind.TheVariants.Reuse}
 use Rattle.core_steps.proofs.reuses.ReuseStepCellStep.run.Goals as goal
 
 pub returns-in-Block-clause-went : goal.returns-in-Block-clause-went

@@ -1,6 +1,6 @@
 use Rattle.std.proofs.Common.{◌≡◌, [], subst}
 use Rattle.seeded_run.specs.{Kept.IsBetween, Order.is_order, Phase.{about, held}}
-use Rattle.volap_cell.specs.Steps.{history_in}
+use Rattle.core_laws.specs.volap_cell.specs.Steps.{history_in}
 use Rattle.olap_top.specs.OneRun.{setting_of}
 use Rattle.olap_top.proofs.PhaseTurns.{told-none}
 use Rattle.olap_top.proofs.run.Run.new.Goals as goal

@@ -1,5 +1,5 @@
 use Rattle.std.proofs.Common.{◌∙◌, subst, sym}
-use Rattle.volap_cell.specs.declared.kind.Kind.{Kind}
+use Rattle.core_pages.specs.volap_cell.specs.declared.kind.Kind.{Kind}
 use Rattle.seeded_run.specs.{Instead.StandsFor, Machine.{about_in, world_of}}
 use Rattle.seeded_run.proofs.{Begun.no-part, Cursors.Held.some-within, Due.DueBegins.beginning-is, Phases.Turns.{has-begun, rests-held, to-begin}}
 use Rattle.seeded_run.proofs.machine.Running.begin.Goals as goal

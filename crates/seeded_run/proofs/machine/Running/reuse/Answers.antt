@@ -1,5 +1,5 @@
 use Rattle.std.proofs.Common.{inl, refl}
-use Rattle.volap_cell.specs.declared.kind.Kind.TheVariants.{Reuse}
+use Rattle.core_pages.specs.volap_cell.specs.declared.kind.Kind.TheVariants.{Reuse}
 use Rattle.seeded_run.proofs.{Goings.{reuse-goes, reuse-now, sound-now}, Phases.Turns.has-gone-on-at-part, States.made-so}
 use Rattle.seeded_run.proofs.machine.Running.reuse.Goals as goal
 

@@ -1,5 +1,5 @@
 use Rattle.std.proofs.Common.{◌∙◌, ◌&&◌, ap, false, not, sym, true}
-use Rattle.volap_cell.specs.Steps.{history_in}
+use Rattle.core_pages.specs.volap_cell.specs.Steps.{history_in}
 use Rattle.seeded_run.specs.{Can.can, Due.due, Machine.{about_in, phase_of, world_of}, Rests.first_open}
 use Rattle.seeded_run.proofs.{Due.DueSteps.in-turn, Takings.{its-turn, orders, other-turn, own-turn}}
 use Rattle.seeded_run.proofs.Takings as seen

@@ -1,6 +1,6 @@
 use Rattle.std.proofs.Common.{get_or, None, arith, subst, sym}
 use Rattle.seeded_run.specs.{Look.IsTold, Machine.{about_in, phase_of, world_of}, Rests.rest_of, Takes.AsksHere}
-use Rattle.volap_cell.specs.Steps.{history_in}
+use Rattle.core_pages.specs.volap_cell.specs.Steps.{history_in}
 use Rattle.seeded_run.proofs.{Begun.{alone-carries, asks-ahead}, Cursors.Held.told}
 use Rattle.seeded_run.proofs.machine.Running.step_on_turn.Goals as goal
 

@@ -1,5 +1,5 @@
 use Rattle.std.proofs.{Common.{◌≡◌, ◌∙◌, List, None, Option, Some, ap, arith, get_or, option_map, sym}, lemmas.List.get_or_read}
-use Rattle.volap_cell.specs.{Values.actor_of, declared.cell.Cell.Cell}
+use Rattle.core_pages.specs.volap_cell.specs.{Values.actor_of, declared.cell.Cell.Cell}
 use Rattle.core_due.specs.{Look.world_by, Reuses.reuse_due}
 use Rattle.seeded_run.specs.declared.turn.DueStep.TheVariants.{Reuses}
 use Rattle.seeded_run.proofs.Begun.{over-seen}

@@ -1,5 +1,5 @@
 use Rattle.std.proofs.Common.{inl, refl}
-use Rattle.volap_cell.specs.declared.kind.Kind.TheVariants.{TakePart}
+use Rattle.core_pages.specs.volap_cell.specs.declared.kind.Kind.TheVariants.{TakePart}
 use Rattle.seeded_run.proofs.{Goings.{hand-goes, hand-now, sound-now}, Phases.Turns.has-gone-on-at-part}
 use Rattle.seeded_run.proofs.machine.Running.take_part.Goals as goal
 
