@@ -7,7 +7,7 @@ use Rattle.core_steps.specs.core_admin.proofs.Collecting.FrozenGates.{IsGateOf, 
 use Rattle.core_steps.specs.core_admin.specs.{CollectDue.CanCollectBlock, FinishDue.{CanBuildBlock}}
 use Rattle.core_due.proofs.{GatesLed.{gate-stands, map-fixed}, Holding.{CanHold, CanHoldAll, hold-one}, Owned.{gate-low, lend-fixed, lend-gate}}
 use Rattle.dc_node.specs.declared.todo.Item.{Item}
-use Rattle.core_steps.specs.link_descent.specs.declared.entered.Fresh.{Fresh}
+use Rattle.link_descent.specs.declared.entered.Fresh.{Fresh}
 use Rattle.list_words.specs.Counts.{Among}
 use Rattle.core_steps.specs.shard_store.specs.declared.gate.Phase.TheVariants as phase
 use Rattle.core_steps.specs.tree_shape.specs.{Collecting.IsCollecting, Laws.ReadableLaw, Shape.numbers as numbers_of}

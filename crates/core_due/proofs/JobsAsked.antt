@@ -10,7 +10,7 @@ use Rattle.core_steps.specs.core_image.proofs.Commands.NextAction.{inside, next-
 use Rattle.core_steps.specs.core_image.specs.NotesDue.{MayBeLeft}
 use Rattle.core_steps.specs.declared.jobs.JobStep.TheVariants as job
 use Rattle.core_steps.specs.declared.notes.NoteStep.TheVariants.{Left}
-use Rattle.core_steps.specs.link_descent.specs.declared.entered.Fresh.{Fresh}
+use Rattle.link_descent.specs.declared.entered.Fresh.{Fresh}
 use Rattle.mapping_table.specs.declared.place.Where.{Where}
 use Rattle.mapping_table.specs.declared.place.Where.TheVariants as where_is
 use Rattle.row_ledger.specs.{declared.settings.Decline.Decline, declared.settings.Decline.TheVariants.Unknown}

@@ -3,8 +3,8 @@ use Rattle.std.proofs.{Common.{◌≡◌, ℕ, zero, suc, ◌+◌, ◌-◌, ◌�
 use Rattle.dc_node.specs.{Block.{entries_in, is_leaf, size}, declared.block.Body.Body, declared.block.Body.TheVariants.{Entries, Rows}, declared.entry.Entry.Entry}
 use Rattle.describing_set.specs.{Sets.{growth_of, size_of}, declared.set.DescSet.DescSet}
 use Rattle.dim_hierarchy.specs.{Dimension.Dimension, declared.row.Coord.Coord}
-use Rattle.core_steps.specs.link_descent.specs.Pick.{IsPick, pick_place}
-use Rattle.core_steps.specs.link_descent.proofs.Picks.{IsBefore, IsBestOf, IsBestOf-keeps, IsBestOf-one, IsBestOf-takes, IsPick-from_best, IsPick-place}
+use Rattle.link_descent.specs.Pick.{IsPick, pick_place}
+use Rattle.link_descent.proofs.Picks.{IsBefore, IsBestOf, IsBestOf-keeps, IsBestOf-one, IsBestOf-takes, IsPick-from_best, IsPick-place}
 use Rattle.std.proofs.Common.{false}
 
 pub entries-some : (body : Body) → is_leaf body ≡ false → 1 ≤ size body → 1 ≤ length (entries_in body)

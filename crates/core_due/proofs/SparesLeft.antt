@@ -5,7 +5,7 @@ use Rattle.cell_stock.specs.declared.purse.Spare.{Spare}
 use Rattle.core_steps.specs.core_admin.proofs.{Building.BuildsHere.PartsFit, Building.MadeTrees.sides-count, Collecting.FrozenGates.{IsGateOf, frozen-gate}}
 use Rattle.describing_set.specs.declared.plane.Plane.{Plane}
 use Rattle.dim_hierarchy.specs.declared.row.Row.{Row}
-use Rattle.core_steps.specs.link_descent.specs.declared.entered.Fresh.{Fresh}
+use Rattle.link_descent.specs.declared.entered.Fresh.{Fresh}
 use Rattle.measure_agg.specs.Aggregate.{Aggregate}
 use Rattle.shard_plan.specs.Building.{cells_for, split_need}
 use Rattle.core_steps.specs.shard_store.specs.declared.gate.Phase.TheVariants as phase

@@ -10,7 +10,7 @@ use Rattle.core_steps.specs.{Books.book_kind, declared.books.BookStep.BookStep}
 use Rattle.core_steps.specs.declared.books.BookStep.TheVariants as book
 use Rattle.core_steps.specs.declared.jobs.JobStep.TheVariants as job
 use Rattle.core_steps.specs.Jobs.{job_kind as kind_of_job}
-use Rattle.core_steps.specs.link_descent.specs.declared.entered.Fresh.{Fresh}
+use Rattle.link_descent.specs.declared.entered.Fresh.{Fresh}
 use Rattle.query_router.specs.{Desk.{is_waiting, verdict_of}, declared.part.Part.Part, declared.part.Verdict.Verdict}
 use Rattle.query_router.specs.declared.part.Verdict.TheVariants as verdict
 use Rattle.row_ledger.specs.declared.settings.Decline.{Decline}

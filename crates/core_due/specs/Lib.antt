@@ -15,7 +15,7 @@ pub mod WorkLaws
 pub mod ReuseLaws
 -- What stands below is passed on.
 pub use Rattle.core_steps.specs.shard_store
-pub use Rattle.core_steps.specs.link_descent
+pub use Rattle.link_descent
 pub use Rattle.core_steps.specs.volap_cell
 pub use Rattle.core_steps.specs.core_tree
 pub use Rattle.core_steps.specs.core_image

@@ -7,7 +7,7 @@ use Rattle.core_steps.specs.declared.rows.RowStep.{RowStep}
 use Rattle.core_steps.specs.declared.rows.RowStep.TheVariants as row_step
 use Rattle.dc_node.specs.{Block.{entries_in, is_full}, declared.block.Block.Block, declared.entry.Entry.Entry}
 use Rattle.dim_hierarchy.specs.{Dimension.Dimension, declared.row.Row.Row}
-use Rattle.core_steps.specs.link_descent.specs.Pick.{pick_place}
+use Rattle.link_descent.specs.Pick.{pick_place}
 use Rattle.core_steps.specs.shard_store.specs.declared.gate.Gate.{Gate}
 use Rattle.core_steps.specs.volap_cell.specs.{Cells.{CellValue, GateCell, block_in}, Values.{ActorValue, ErrandValue, OfRow, TaskValue}, World.World}
 

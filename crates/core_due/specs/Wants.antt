@@ -3,7 +3,7 @@ use Rattle.std.specs.{Option.option_map_or, Prelude.{ℕ, ◌==◌, ◌&&◌, �
 use Rattle.core_due.specs.Due.{all_below, led_to}
 use Rattle.dc_node.specs.{Block.entries_in, declared.block.Block.Block, declared.entry.Entry.Entry, declared.todo.Item.Item}
 use Rattle.dim_hierarchy.specs.{Dimension.Dimension, declared.row.Row.Row}
-use Rattle.core_steps.specs.link_descent.specs.Pick.{pick_place}
+use Rattle.link_descent.specs.Pick.{pick_place}
 use Rattle.mapping_table.specs.declared.place.Where.{Where}
 use Rattle.mapping_table.specs.declared.place.Where.TheVariants as where_is
 use Rattle.core_steps.specs.volap_cell.specs.{Cells.{active_in, block_in, way_in}, Errands.{RowWay, block_at, way_of}, Setting.{Setting, actor_count}, Values.{ActorValue, ErrandValue, TaskValue, OfRow, Read, JobValue, StageValue, IsFrozen}, World.World, declared.errand.Way.Way, declared.kind.Kind.Kind}

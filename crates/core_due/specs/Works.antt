@@ -6,7 +6,7 @@ use Rattle.core_due.specs.declared.works.WorkDue.TheVariants.{Books, Ends, Jobs,
 use Rattle.core_steps.specs.{Books.book_kind, Jobs.job_kind, declared.books.BookStep.BookStep, declared.jobs.JobStep.JobStep}
 use Rattle.core_steps.specs.declared.books.BookStep.TheVariants as book
 use Rattle.core_steps.specs.declared.jobs.JobStep.TheVariants as job
-use Rattle.core_steps.specs.link_descent.specs.declared.entered.Fresh.{Fresh}
+use Rattle.link_descent.specs.declared.entered.Fresh.{Fresh}
 use Rattle.mapping_table.specs.declared.place.Where.{Where}
 use Rattle.mapping_table.specs.declared.place.Where.TheVariants as where_is
 use Rattle.query_router.specs.{Desk.{DeskValue, is_waiting, verdict_of}, declared.part.Part.Part, declared.part.Verdict.Verdict}

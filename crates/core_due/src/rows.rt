@@ -13,11 +13,11 @@ use crate::sights::cell_at;
 use crate::spares::{last_spare, last_two};
 use cell_stock::Purse;
 use core_steps::RowStep;
-use core_steps::link_descent::pick;
 use core_steps::shard_store::Gate;
 use core_steps::volap_cell::{Actor, Cell, Task};
 use dc_node::{Block, Entry};
 use dim_hierarchy::{Hierarchy, Row};
+use link_descent::pick;
 
 /// Whether the block in a cell is full; what isn't a block isn't.
 fn is_full_at(cells: &[Option<Cell>], at: u32) -> bool
@@ -97,7 +97,7 @@ fn down_by(cells: &[Option<Cell>], purse: &Purse, parent: u32, place: u8, entry:
 }
 
 /// The step down by the entry of the parent that comes first for the row.
-#[tactic(auto, unfolding(core_steps::specs::link_descent::specs::Pick::pick_place))]
+#[tactic(auto, unfolding(link_descent::specs::Pick::pick_place))]
 fn down_from(
     h: &Hierarchy,
     cells: &[Option<Cell>],
@@ -120,7 +120,7 @@ fn down_from(
 }
 
 /// The step of the actor's row down from the block, if it has one.
-#[tactic(auto, unfolding(core_steps::specs::link_descent::specs::Pick::pick_place))]
+#[tactic(auto, unfolding(link_descent::specs::Pick::pick_place))]
 fn down_at(
     h: &Hierarchy,
     cells: &[Option<Cell>],

@@ -5,7 +5,7 @@ use Rattle.cell_stock.specs.{Stock.PurseValue, declared.purse.Spare.Spare}
 use Rattle.seat_steps.specs.core_steps.specs.Places.{numbers, swaps}
 use Rattle.dc_node.specs.{Block.entries_in, declared.block.Block.Block, declared.entry.Entry.Entry}
 use Rattle.dim_hierarchy.specs.{Dimension.Dimension, declared.row.Row.Row}
-use Rattle.seat_steps.specs.link_descent.specs.{Descend.{Cuts, Enters, IsShared, StepsDown}, declared.entered.Entered.Entered, declared.entered.Fresh.Fresh}
+use Rattle.link_descent.specs.{Descend.{Cuts, Enters, IsShared, StepsDown}, declared.entered.Entered.Entered, declared.entered.Fresh.Fresh}
 use Rattle.list_words.proofs.{Each.{each-left, each-right}, Elements.Some-same}
 use Rattle.list_words.specs.Counts.{Each}
 use Rattle.part_steps.specs.Goings.{IsBesidePart}

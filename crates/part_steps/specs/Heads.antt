@@ -7,7 +7,7 @@ use Rattle.seat_steps.specs.core_steps.specs.{Places.numbers, Rows.{row_kind, ro
 use Rattle.seat_steps.specs.core_steps.specs.declared.rows.RowStep.TheVariants as row_step
 use Rattle.dc_node.specs.{Block.{IsBodyOf, entries_in, is_leaf}, declared.entry.Entry.Entry}
 use Rattle.dim_hierarchy.specs.{Dimension.Dimension, Rows.IsRowOf, declared.row.Row.Row}
-use Rattle.seat_steps.specs.link_descent.specs.Pick.{pick_place}
+use Rattle.link_descent.specs.Pick.{pick_place}
 use Rattle.list_words.specs.Counts.{Each}
 use Rattle.part_steps.specs.declared.heads.{Group.Group, Head.Head}
 use Rattle.seat_steps.specs.{Floors.{IsAround, IsSeated}, Made.IsKeptBy, Takes.IsSameActor, declared.floor.{Floor.Floor, Player.Player}}

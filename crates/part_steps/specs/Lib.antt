@@ -4,7 +4,7 @@ pub mod Parts
 pub mod Reads
 pub mod Rows
 -- What stands below is passed on.
-pub use Rattle.seat_steps.specs.link_descent
+pub use Rattle.link_descent
 pub use Rattle.seat_steps.specs.volap_cell
 pub use Rattle.seat_steps.specs.core_tree
 pub use Rattle.seat_steps.specs.core_image

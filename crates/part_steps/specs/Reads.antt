@@ -4,7 +4,7 @@ use Rattle.seat_steps.specs.core_due.specs.Wants.{last_noted}
 use Rattle.seat_steps.specs.core_steps.specs.{Places.{one_at, two_at}, Steps.Went}
 use Rattle.seat_steps.specs.core_tree.specs.ReadDue.{room_in_task, room_to_note}
 use Rattle.dim_hierarchy.specs.Dimension.{Dimension}
-use Rattle.seat_steps.specs.link_descent.specs.Visit.{most_noted}
+use Rattle.link_descent.specs.Visit.{most_noted}
 use Rattle.part_steps.specs.Parts.{IsUnread}
 use Rattle.seat_steps.specs.volap_cell.specs.{Setting.Setting, Values.{ActorValue, ErrandValue, Read, TaskValue, actor_of, task_of}, World.World, declared.actor.Actor.Actor, declared.cell.Cell.Cell, declared.errand.Task.Task}
 use Rattle.seat_steps.specs.volap_cell.specs.declared.kind.Kind.TheVariants.{BlockVisit, GateRead}

@@ -16,16 +16,16 @@ ghost use Rattle.seat_steps.specs.volap_turns.specs.Rows.{IsThere};
 use crate::heads::{Group, take_head};
 use dc_node::Block;
 use dim_hierarchy::{Hierarchy, Row};
+use link_descent::pick;
 use seat_steps::core_due::{last_spare, last_two};
 use seat_steps::core_steps::RowStep;
-use seat_steps::link_descent::pick;
 use seat_steps::volap_cell::{Actor, Cell, Task};
 use seat_steps::{Floor, Player, make};
 use std::alloc::Global;
 use std::sync::Wait;
 
 /// The place of the entry of a directory that comes first for a row, and the group to which it leads.
-#[tactic(auto, unfolding(seat_steps::specs::link_descent::specs::Pick::pick_place))]
+#[tactic(auto, unfolding(link_descent::specs::Pick::pick_place))]
 fn pick_for(h: &Hierarchy, row: &Row, block: &Block) -> (u8, Group)
     requires body { IsBodyOf h.now block.now.body }
     requires some { 0 < length (entries_in block.now.body) }

@@ -9,7 +9,7 @@ use Rattle.core_due.specs.core_steps.specs.declared.parts.PartStep.TheVariants a
 use Rattle.core_due.specs.core_steps.specs.declared.trees.TreeStep.TheVariants as tree
 use Rattle.dc_node.specs.{Block.entries_in, declared.entry.Entry.Entry}
 use Rattle.dim_hierarchy.specs.Dimension.{Dimension}
-use Rattle.core_pages.specs.link_descent.specs.Pick.{pick_place}
+use Rattle.link_descent.specs.Pick.{pick_place}
 use Rattle.list_words.proofs.Elements.{Some-same}
 use Rattle.core_pages.specs.volap_cell.proofs.Cells.States.{is-some, of-it, stands}
 use Rattle.core_pages.specs.volap_cell.specs.{Cells.block_in, Setting.Setting, Values.{ActorValue, ErrandValue, actor_of}, World.World, declared.state.State.State}

@@ -18,10 +18,10 @@ ghost use Rattle.core_due.specs.declared.parts.PartDue.TheVariants.{Descends};
 use crate::survey::Survey;
 use core_due::core_steps::TreeStep;
 use core_due::{PartDue, cell_at};
-use core_pages::link_descent::pick;
 use core_pages::volap_cell::{Actor, Cell, Errand, Stage, State, Task, Way};
 use dc_node::Block;
 use dim_hierarchy::{Hierarchy, Row};
+use link_descent::pick;
 
 /// The root of the tree at the gate in a cell.
 fn root_in(cells: &[Option<Cell>], gate: u32) -> u32
@@ -34,7 +34,7 @@ fn root_in(cells: &[Option<Cell>], gate: u32) -> u32
 }
 
 /// The child that comes first for a row.
-#[tactic(auto, unfolding(core_pages::specs::link_descent::specs::Pick::pick_place))]
+#[tactic(auto, unfolding(link_descent::specs::Pick::pick_place))]
 fn child_of(h: &Hierarchy, block: &Block, row: &Row) -> Option<u32>
     requires body { IsBodyOf h.now block.now.body }
     requires row { IsRowOf h.now row.now }
