@@ -6,7 +6,7 @@ use mathlib.Core.Logic.{dite}
 use mathlib.Core.Option.{none, some, some-injective}
 use native.Mathlib.Decide.{ℕ_discrete, dec_lt}
 use Rattle.actor_run.proofs.{Closing.has-all, Missing.none-missing, Taken.some-cells, Seated.{below-count, is, is-actor, none-held, none-since, right-whole, role-of, setting-of, still-at}}
-use Rattle.actor_run.specs.{Halls.is_admin, Passes.{AreAllIn, ArePasses, HasAdmin, IsAbout, IsAdminOf, IsAt, IsIn, IsPassesOf, PassesValue, in_seat, missing, passes_of}, Wholes.{AddsNothing, AreToldBy, EndsIn, HaveGoneOn, HaveSettledSo, is_admin_at}}
+use Rattle.actor_run.specs.{Halls.is_admin, Passes.{AreAllIn, ArePasses, HasAdmin, IsAbout, IsAdminOf, IsAt, IsIn, IsPassesOf, PassesValue, gone_of, in_seat, missing, passes_of}, Wholes.{AddsNothing, AreToldBy, EndsIn, HaveGoneOn, HaveSettledSo, is_admin_at}}
 use Rattle.atomic_table.specs.Seated.{TableId}
 use Rattle.whole_steps.specs.call_steps.proofs.OpenCalls.{extends-length}
 use Rattle.whole_steps.specs.call_steps.specs.Calls.{CanCall}
@@ -17,13 +17,13 @@ use Rattle.row_ledger.specs.declared.settings.Call.TheVariants.{Settle}
 use Rattle.row_ledger.specs.declared.settings.Decline.TheVariants as decline
 use Rattle.row_ledger.specs.declared.settings.How.TheVariants as how
 use Rattle.whole_steps.specs.seat_steps.proofs.Since.{extends-on}
-use Rattle.whole_steps.specs.seat_steps.specs.declared.floor.Floor.{Floor}
+use Rattle.whole_steps.specs.seat_steps.specs.declared.floor.{Floor.Floor, Player.Player}
 use Rattle.turn_table.specs.{Numbered.{Extends, numbers_of, value_of}, Seat.{SeatValue, cell_count}}
 use Rattle.whole_steps.specs.volap_cell.specs.{Commands.{MayCall, MayCallAs}, Setting.{Setting, actor_count, ledger_cell, site_in}, Sights.IsIdle, Values.{ActorValue, actor_of}, declared.actor.Actor.Actor, declared.cell.Cell.Cell, declared.role.Role.Role, declared.role.Role.TheVariants.{Admin, Hand, Puller, Session}}
 use Rattle.script_run.specs.Places.{begins_of}
 use Rattle.whole_steps.specs.volap_turns.specs.Worlds.{past}
 use Rattle.whole_steps.proofs.Alone.{everyone-of, idle-keeps, idle-none}
-use Rattle.whole_steps.specs.{Done.{HasDone, HasNotBegun, HasPaged, IsDoneSole}, Seats.{HasEveryone, HasTurned}, Settles.HasSettledCall, Sole.{StandsSole, player}}
+use Rattle.whole_steps.specs.{Done.{HasDone, HasNotBegun, HasPaged, IsDoneSole}, Seats.{HasEveryone, HasTurned}, Settles.HasSettledCall, Sole.{IsSameBut, StandsSole, player}}
 use Rattle.whole_steps.specs.declared.settles.Settled.{Settled}
 use Rattle.whole_steps.specs.declared.settles.Settled.TheVariants as settled
 use Rattle.whole_steps.specs.declared.tells.Paged.{Paged}
@@ -32,7 +32,7 @@ use Rattle.whole_steps.specs.declared.tells.Paged.TheVariants as paged
 abbrev S : Type 0
 S = SeatValue Cell Actor Event
 
-admin-role : (r : Role) → is_admin r ≡ true → r ≡ Admin
+pub admin-role : (r : Role) → is_admin r ≡ true → r ≡ Admin
 admin-role Admin e = refl
 admin-role (Session server) e = absurd (cc)
 admin-role (Hand worker) e = absurd (cc)
@@ -48,6 +48,21 @@ missing-put k [] n y all = refl
 missing-put k (None ∷ xs) n y all = absurd (cc)
 missing-put k (Some a ∷ xs) zero y all = all
 missing-put k (Some a ∷ xs) (suc n) y all = missing-put (k + 1) xs n y all
+
+-- Behind what an actor did it stands at the seat with everyone, idle if it was.
+pub record IsBack (f : Floor) (was now : Player) : Type 0 where
+  pub stands : StandsSole f now
+  pub same : IsSameBut was now
+  pub idle : IsIdle (actor_of was.actor) → IsIdle (actor_of now.actor)
+  pub noted : (actor_of now.actor).seen ≤ length now.seat.view.seen
+
+is-back : {f : Floor} {was now : Player} → IsDoneSole f was now → IsBack f was now
+is-back done = record {
+  stands = done.stands;
+  same = done.same;
+  idle = λ i. subst IsIdle (sym done.actor) (record { command = i.command; errand = i.errand; job = i.job; purse = i.purse; counted = i.counted });
+  noted = done.noted;
+}
 
 module _ {s : S} {own : Actor} {actors : List (Option Actor)} (are : ArePasses s own actors) (all : missing 0 actors ≡ []) where
   abbrev about : Setting
@@ -109,17 +124,17 @@ module _ {s : S} {own : Actor} {actors : List (Option Actor)} (are : ArePasses s
 
     -- Behind its command.
 
-    module _ (y : Actor) (t : S) (done : IsDoneSole f (player n x s) (player n y t)) (later : Extends t.view.seen s.view.seen) where
+    module _ (y : Actor) (t : S) (done : IsBack f (player n x s) (player n y t)) (later : Extends t.view.seen s.view.seen) where
       longer : length s.view.seen ≤ length t.view.seen
       longer = extends-length s.view.seen t.view.seen later
 
-      now-in : IsIn about t n y
+      pub now-in : IsIn about t n y
       now-in = record {
         last = done.stands.sole.holds.one.last;
         has = done.stands.sole.holds.one.has;
         same = done.stands.sole.holds.one.same;
         about_is = done.same.setting ∙ it.about_is;
-        idle = subst IsIdle (sym done.actor) (record { command = it.idle.command; errand = it.idle.errand; job = it.idle.job; purse = it.idle.purse; counted = it.idle.counted });
+        idle = done.idle it.idle;
         noted = done.noted;
       }
 
@@ -230,7 +245,7 @@ module _ {s : S} {own : Actor} {actors : List (Option Actor)} (are : ArePasses s
 
   -- The administrator.
 
-  role-at : (a : ℕ) (x : Actor) → IsIn about s a x → slice_get about.roles a ≡ Some (actor_of x).role
+  pub role-at : (a : ℕ) (x : Actor) → IsIn about s a x → slice_get about.roles a ≡ Some (actor_of x).role
   role-at a x it =
       ap (λ (z : Setting). slice_get z.roles a) (sym it.about_is) ∙ ap (λ (z : ActorValue). slice_get z.setting.roles a) (sym it.same) ∙ ap (λ (z : Setting). slice_get z.roles a) (setting-of are.possible a it.last it.has)
       ∙ role-of are.possible a it.last it.has ∙ ap (λ (z : ActorValue). Some z.role) it.same
@@ -268,11 +283,11 @@ module _ (f : Floor) (call : Call) (n : ℕ) (x y : Actor) (s t : S) where
   done-since : {events : ℕ → List Event} → HasDone f call events (player n x s) (player n y t) → Extends t.view.seen s.view.seen
   done-since {events} done = extends-on t.view.seen done.older s.view.seen (events (length done.older) ++ Called n call ∷ [], done.seen ∙ sym (append_assoc (events (length done.older)) (Called n call ∷ []) done.older)) done.since
 
-  pub paged-done : (r : Paged) → HasPaged f call r (player n x s) (player n y t) → IsDoneSole f (player n x s) (player n y t)
-  paged-done (paged.Page shown) has = has.0.done
-  paged-done paged.Unknown has = has.1.done
-  paged-done paged.Failed has = has.done
-  paged-done paged.NotBegun has = has.done
+  pub paged-done : (r : Paged) → HasPaged f call r (player n x s) (player n y t) → IsBack f (player n x s) (player n y t)
+  paged-done (paged.Page shown) has = is-back has.0.done
+  paged-done paged.Unknown has = is-back has.1.done
+  paged-done paged.Failed has = is-back has.done
+  paged-done paged.NotBegun has = is-back has.done
 
   pub paged-later : (r : Paged) → HasPaged f call r (player n x s) (player n y t) → Extends t.view.seen s.view.seen
   paged-later (paged.Page shown) has = done-since has.0
@@ -296,9 +311,9 @@ module _ (f : Floor) (call : Call) (n : ℕ) (x y : Actor) (s t : S) where
   -- a barrier ends, or doesn't begin
 
   module _ {T E : Type 0} (events : ℕ → List Event) where
-    pub barrier-done : (r : Result T E) → OnOk r (HasDone f call events (player n x s) (player n y t)) → OnErr r (HasNotBegun f (player n x s) (player n y t)) → IsDoneSole f (player n x s) (player n y t)
-    barrier-done (Ok z) done none_done = done.done
-    barrier-done (Err z) done none_done = none_done.done
+    pub barrier-done : (r : Result T E) → OnOk r (HasDone f call events (player n x s) (player n y t)) → OnErr r (HasNotBegun f (player n x s) (player n y t)) → IsBack f (player n x s) (player n y t)
+    barrier-done (Ok z) done none_done = is-back done.done
+    barrier-done (Err z) done none_done = is-back none_done.done
 
     pub barrier-later : (r : Result T E) → OnOk r (HasDone f call events (player n x s) (player n y t)) → OnErr r (HasNotBegun f (player n x s) (player n y t)) → Extends t.view.seen s.view.seen
     barrier-later (Ok z) done none_done = done-since done
@@ -316,10 +331,10 @@ module _ (f : Floor) (call : Call) (n : ℕ) (x y : Actor) (s t : S) where
 -- A settle.
 
 module _ (f : Floor) (n : ℕ) (x y : Actor) (s t : S) where
-  pub settled-done : (r : Settled) → HasSettledCall f r (player n x s) (player n y t) → IsDoneSole f (player n x s) (player n y t)
-  settled-done settled.Ok has = has.done.done
-  settled-done settled.Failed has = has.done.done
-  settled-done settled.NotBegun has = has.done
+  pub settled-done : (r : Settled) → HasSettledCall f r (player n x s) (player n y t) → IsBack f (player n x s) (player n y t)
+  settled-done settled.Ok has = is-back has.done.done
+  settled-done settled.Failed has = is-back has.done.done
+  settled-done settled.NotBegun has = is-back has.done
 
   pub settled-later : (r : Settled) → HasSettledCall f r (player n x s) (player n y t) → Extends t.view.seen s.view.seen
   settled-later settled.Ok has = done-since f Settle n x y s t has.done
@@ -369,7 +384,7 @@ gone-on f v s t own own_now actors now view of all are all_now table setting lat
     record {
       own = own_is;
       all = all_now;
-      same = λ i. record { table = table i; setting = setting i; out = (all_now ∙ sym in_all) i; seen = t.view.seen };
+      same = λ i. record { table = table i; setting = setting i; out = (all_now ∙ sym in_all) i; seen = t.view.seen; gone = gone_of own_now now };
       later = later;
       right = subst (λ (x : Site). IsRight x t.view.seen) (λ i. record { hierarchy = own_is.hierarchy i; servers = own_is.servers i; workers = own_is.workers i }) are.right;
       others = others;

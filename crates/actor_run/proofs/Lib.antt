@@ -2,6 +2,7 @@ pub mod PassAndSession
 pub mod Missing
 pub mod Seated
 pub mod Taken
+pub mod Knowing
 pub mod Given
 pub mod Opening
 pub mod Closing
@@ -17,3 +18,4 @@ pub mod Measured
 pub mod TwoSessions
 pub mod Sent
 pub mod Gathered
+pub mod Reused

@@ -6,8 +6,8 @@ use mathlib.Core.Option.{none, some}
 use lib.ListN.{get_elem?}
 use Rattle.atomic_table.specs.Seated.{TableId}
 use Rattle.atomic_table.proofs.Lists.{at_last, at_longer}
-use Rattle.actor_run.specs.{Halls.{HasOpened, IsHallFor, hall_setting, is_admin, own_role}, Opened.IsOpenedTable, Passes.{ArePasses, HasAdmin, IsAt, IsIn, passes_of}}
-use Rattle.actor_run.proofs.{Missing.all-in, Seated.{right-whole, setting-of}}
+use Rattle.actor_run.specs.{Halls.{HasOpened, IsHallFor, hall_setting, is_admin, own_role}, Opened.IsOpenedTable, Passes.{ArePasses, HasAdmin, IsAt, IsIn, gone_at, gone_of, passes_of}}
+use Rattle.actor_run.proofs.{Knowing.{none-among, none-left, none-of}, Missing.all-in, Seated.{right-whole, setting-of}}
 use Rattle.dim_hierarchy.specs.Dimension.{Dimension}
 use Rattle.row_ledger.specs.{Kept.IsOpeningHistory, Right.{EachEvent, IsFirstPull, IsRight}, Site.Site, declared.event.Event.Event, declared.event.Event.TheVariants.Synced, declared.settings.Use.Use}
 use Rattle.script_run.specs.Places.{begins_in, begins_of}
@@ -110,6 +110,11 @@ module _ {s : Setting} {t : TableId} {seat : S} (xs : List Actor) (own : Actor) 
   pub none-seen : (n : ℕ) → begins_of seat.view.seen n ≡ []
   none-seen n = none-begun (site_in (actor_of own).setting) seat.view.seen n opening-seen.pulls
 
+  pub none-known : gone_of own (all_there xs) ≡ []
+  none-known = none-of own (all_there xs) (none-left own (fresh (length xs) own at-own).gone_gates) (none-among (all_there xs) (λ k low.
+      let it = there xs k (omega (arith, low, long xs)) in
+      ap gone_at (at-place xs k it.0 it.1) ∙ none-left it.0 (fresh k it.0 (at_longer xs (own ∷ []) k it.0 it.1)).gone_gates))
+
   pub pulls-seen : length seat.view.seen ≡ s.servers
   pulls-seen = ap (λ (h : List Event). length h) seen-is ∙ table.opened.opening.all_pulled
 
@@ -152,6 +157,7 @@ module _ {h : List Dimension} {with : Use} {roles : List Role} {t : TableId} {se
     opening = opening-seen xs own ending;
     pulls = pulls-seen xs own ending;
     begun = none-seen xs own ending;
+    gone = none-known xs own ending;
   })
 
 -- A table over an opening.

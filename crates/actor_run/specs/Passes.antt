@@ -1,5 +1,5 @@
 -- What contracts see of passes, each an actor with nothing to do at a seat that holds no cell.
-use Rattle.std.specs.Prelude.{ℕ, ◌≡◌, ◌==◌, ◌+◌, ◌^◌, ◌<◌, ◌≤◌, ◌⊎◌, false, if◌then◌else◌, List, [], ◌∷◌, length, count_by, get_or, slice_get, Option, Some, None}
+use Rattle.std.specs.Prelude.{ℕ, ◌≡◌, ◌==◌, ◌+◌, ◌^◌, ◌<◌, ◌≤◌, ◌⊎◌, false, if◌then◌else◌, List, [], ◌∷◌, ◌++◌, length, count_by, get_or, slice_get, Option, Some, None}
 use mathlib.Core.Option.{some, none}
 use Rattle.atomic_table.specs.Seated.{TableId}
 use Rattle.row_ledger.specs.{Right.IsRight, declared.event.Event.Event}
@@ -50,6 +50,7 @@ pub record PassesValue : Type 0 where
   pub setting : Setting
   pub out : List ℕ
   pub seen : List Event
+  pub gone : List ℕ
 
 -- the places where nothing stands, from a number on
 abbrev pub missing : ℕ → List (Option Actor) → List ℕ
@@ -57,8 +58,25 @@ missing k [] = []
 missing k (None ∷ actors) = k ∷ missing (k + 1) actors
 missing k (Some a ∷ actors) = missing (k + 1) actors
 
+-- the cells of the gates that are gone, as the administrator knows them; none while it is out
+
+abbrev pub gone_by : Role → List ℕ → List ℕ
+gone_by Admin gates = gates
+gone_by role gates = []
+
+abbrev pub gone_at : Option Actor → List ℕ
+gone_at None = []
+gone_at (Some x) = gone_by (actor_of x).role (actor_of x).gone_gates
+
+abbrev pub gone_among : List (Option Actor) → List ℕ
+gone_among [] = []
+gone_among (a ∷ actors) = gone_at a ++ gone_among actors
+
+abbrev pub gone_of : Actor → List (Option Actor) → List ℕ
+gone_of own actors = gone_at (Some own) ++ gone_among actors
+
 abbrev pub passes_of : SeatValue Cell Actor Event → Actor → List (Option Actor) → PassesValue
-passes_of s own actors = record { table = s.table_id; setting = (actor_of own).setting; out = missing 0 actors; seen = s.view.seen }
+passes_of s own actors = record { table = s.table_id; setting = (actor_of own).setting; out = missing 0 actors; seen = s.view.seen; gone = gone_of own actors }
 
 -- one of the actors is the administrator, whether the hall's own or that of a role
 
@@ -124,13 +142,13 @@ pub record HasTaken (number : ℕ) (was now : PassesValue) (pass : PassValue) : 
   pub setting : pass.setting ≡ was.setting
   pub table : pass.table ≡ was.table
   pub seen : pass.seen ≡ was.seen
-  pub now_is : now ≡ record was { out = now.out }
+  pub now_is : now ≡ record was { out = now.out; gone = now.gone }
   pub out : (k : ℕ) → count_by (λ x. x == k) now.out ≡ count_by (λ x. x == k) was.out + (if k == number then 1 else 0)
 
 -- A pass is in again, and the longer of the two histories has been seen. Of that pass nothing has begun there that it hadn't seen, and of
 -- the numbers that were not out nothing that the others hadn't.
 pub record HasGiven (pass : PassValue) (was now : PassesValue) : Type 0 where
-  pub same : now ≡ record was { out = now.out; seen = now.seen }
+  pub same : now ≡ record was { out = now.out; seen = now.seen; gone = now.gone }
   pub out : (k : ℕ) → count_by (λ x. x == k) was.out ≡ count_by (λ x. x == k) now.out + (if k == pass.number then 1 else 0)
   pub longer : Extends now.seen was.seen
   pub as_pass : Extends now.seen pass.seen

@@ -28,10 +28,20 @@ is_admin_at (Some x) = is_admin (actor_of x).role
 pub record HaveGoneOn (f : Floor) (was now : PassesValue) : Type 0 where
   pub own : IsPassesOf f now
   pub all : AreAllIn now
-  pub same : now ≡ record was { seen = now.seen }
+  pub same : now ≡ record was { seen = now.seen; gone = now.gone }
   pub later : Extends now.seen was.seen
   pub right : IsRight (site_of f.with f.hierarchy) now.seen
   pub others : (k : ℕ) → (IsAdminOf was.setting k → ⊥) → begins_of now.seen k ≡ begins_of was.seen k
+
+-- All passes are in still, and have seen as much or more, which is right. Nobody has begun anything. Cells of gates that were gone are used
+-- again.
+pub record HaveReused (f : Floor) (was now : PassesValue) : Type 0 where
+  pub own : IsPassesOf f now
+  pub all : AreAllIn now
+  pub same : now ≡ record was { seen = now.seen; gone = now.gone }
+  pub later : Extends now.seen was.seen
+  pub right : IsRight (site_of f.with f.hierarchy) now.seen
+  pub none : (k : ℕ) → begins_of now.seen k ≡ begins_of was.seen k
 
 -- The newest events are those of the administrator's call: its beginning, and these behind it. Before them stands what had been seen, or more,
 -- in which the administrator has begun nothing else.

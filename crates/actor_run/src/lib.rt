@@ -11,6 +11,7 @@ mod driving;
 mod gates;
 mod hall;
 mod passes;
+mod reuse;
 mod session;
 #[cfg(test)]
 mod tests;

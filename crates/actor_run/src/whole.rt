@@ -223,7 +223,7 @@ fn is_admin_at(place: &Option<Actor>) -> bool
 }
 
 /// How many actors have roles, which is the number of the hall's own.
-fn own_number(actors: &Vec<Option<Actor>>) -> u32
+pub(crate) fn own_number(actors: &Vec<Option<Actor>>) -> u32
     requires few { length actors.now.items < 2 ^ 16 }
     ensures { result ≡ length actors.now.items }
 {
@@ -231,7 +231,7 @@ fn own_number(actors: &Vec<Option<Actor>>) -> u32
 }
 
 /// The place of the administrator among the actors of the roles; `None` where the hall's own is that.
-fn admin_among(actors: &Vec<Option<Actor>>) -> Option<u32>
+pub(crate) fn admin_among(actors: &Vec<Option<Actor>>) -> Option<u32>
     requires few { length actors.now.items < 2 ^ 16 }
     ensures some { IfSome result (λ k. (k < length actors.now.items) × (is_admin_at (get_or actors.now.items k None) ≡ true)) }
     ensures none { IfNone result ((k : ℕ) → k < length actors.now.items → is_admin_at (get_or actors.now.items k None) ≡ true → ⊥) }

@@ -80,3 +80,21 @@ module _ (f : Floor) (phase : List Command) (many : ℕ) (last : Command) (at : 
 
 pub back-twice : (f : Floor) (was mid now : PassesValue) → AreBack f was mid → AreBack f mid now → AreBack f was now
 back-twice f was mid now first second = record { phased = second.phased; later = later-then was.seen mid.seen now.seen first.later second.later }
+
+-- Events behind it that begin nothing.
+
+module _ (f : Floor) (past mid now : List Event) (nothing : (session : ℕ) → BeginsNothing session mid now) where
+  each-on : (commands : List Command) → EachDoes f.with f.hierarchy commands past mid → EachDoes f.with f.hierarchy commands past now
+  each-on commands does session = came-on f session commands past mid now false (does session) (nothing session)
+
+  pub phase-on : (phase : List Command) → DoesPhase f.with f.hierarchy phase past mid → DoesPhase f.with f.hierarchy phase past now
+  phase-on phase (inl does) = inl (does.0, each-on phase does.1)
+  phase-on phase (inr last) = inr (record {
+    front = last.front;
+    last = last.last;
+    split = last.split;
+    none_closes = last.none_closes;
+    between = last.between;
+    first = last.first;
+    then = λ session. came-on f session (last.last ∷ []) last.between mid now false (last.then session) (nothing session);
+  })

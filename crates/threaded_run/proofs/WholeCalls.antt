@@ -1,7 +1,7 @@
 -- The command that closes a phase, with nothing beside it.
 use Rattle.std.proofs.{Common.{◌≡◌, ◌≢◌, ◌∙◌, ℕ, zero, suc, ◌+◌, ◌<◌, ◌≤◌, Bool, true, false, cond, List, [], ◌∷◌, ◌++◌, length, take, slice_get, Some, Result, Ok, Err, IfSome, inl, inr, refl, sym, ap, subst, arith}, lemmas.Bool.{cases_lt, false≢true, ne_eqb}, lemmas.Option.slice_get_within}
 use Rattle.std.specs.Prelude.{◌==◌, IsTrue, OnErr, OnOk, option_and_then}
-use Rattle.hall_hands.specs.actor_run.specs.{Passes.{IsAdminOf, PassesValue}, Wholes.{AddsNothing, AreToldBy, EndsIn, HaveGoneOn, HaveSettledSo}}
+use Rattle.hall_hands.specs.actor_run.specs.{Passes.{IsAdminOf, PassesValue}, Wholes.{AddsNothing, AreToldBy, EndsIn, HaveGoneOn, HaveReused, HaveSettledSo}}
 use Rattle.hall_hands.specs.core_told.proofs.Pulled.{pulled-more, pulled-none, settle-next, twice-length}
 use Rattle.row_ledger.specs.{Classes.class_of, Past.{call_at, call_in, event_at, is_over}, Right.IsRight, Settled.{pulls_since, settle_pulls}, Site.site_of, declared.class.Subject.Subject, declared.event.Event.Event, declared.page.Page.Page, declared.settings.{Call.Call, How.How, Use.Use}}
 use Rattle.row_ledger.specs.declared.class.Class.TheVariants as class
@@ -222,3 +222,12 @@ map-ok P Q (Err e) g p = tt
 pub map-err : {T E : Type 0} (P Q : Type 0) (r : Result T E) → (P → Q) → OnErr r P → OnErr r Q
 map-err P Q (Ok x) g p = tt
 map-err P Q (Err e) g p = g p
+
+-- Cells that are used again: all are in still, and nobody has begun anything.
+
+module _ (f : Floor) (was now : PassesValue) (phased : ArePhased f was) (reused : HaveReused f was now) where
+  pub reused-back : AreBack f was now
+  reused-back = all-on f was now phased (record { own = reused.own; all = reused.all; same = reused.same; later = reused.later; right = reused.right; others = λ k other. reused.none k })
+
+  pub reused-nothing : (k : ℕ) → BeginsNothing k was.seen now.seen
+  reused-nothing k = record { later = reused.later; none = reused.none k }

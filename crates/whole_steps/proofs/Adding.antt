@@ -18,7 +18,7 @@ use Rattle.core_pages.specs.volap_cell.specs.{Cells.CellValue, Setting.{Setting,
 use Rattle.call_steps.specs.volap_turns.proofs.{Placed.length-numbers, Turned.same-holds}
 use Rattle.call_steps.specs.volap_turns.specs.{Rows.{AreAt, IsThere, cells_for}, Seats.{HasStepped, Holds, IsStillHeld}}
 use Rattle.whole_steps.proofs.{Alone.{around, everyone-of, keeps-none, none-kept, noted-sole, sole-on, whole-history}, Turned.{knows-on, turned-on}}
-use Rattle.whole_steps.specs.{Seats.{HasEveryone, HasTurned, Knows, TakesCell}, Sole.{HasMadeSole, HasWaited, IsDueSole, IsSole, player}}
+use Rattle.whole_steps.specs.{Seats.{HasEveryone, HasTurned, Knows, TakesCell}, Sole.{HasMadeSole, HasWaited, IsDueSole, IsSameBut, IsSole, StandsSole, player}}
 
 -- The next cell of a step that is due is one of the table, and isn't held yet.
 
@@ -104,7 +104,7 @@ known-either new known k knows = elim (some_or_none (value_of new k)) [
 ]
 
 module _ (f : Floor) (kind : Kind) (Sees : Setting → World → ℕ → Type 0) (Tells : ActorValue → (was now : List (Option CellValue)) → Type 0) (row : List (Option ℕ)) (n : ℕ) (a b : Actor) (was mid now last : SeatValue Cell Actor Event)
-    (sole : IsSole f (player n a mid)) (kept : IsKeptAnyhow f.hierarchy kind Sees Tells row (player n a was)) (at : AreAt row mid.view.held) (there : IsThere mid.view.held ledger_cell) (turned : HasTurned was mid) where
+    (sole : IsSole f (player n a mid)) (kept : IsKeptAnyhow f.hierarchy kind Sees Tells row (player n a was)) (at : AreAt row mid.view.held) (turned : HasTurned was mid) where
   -- it must keep no cell
   pub keeps-behind : (x : ActorValue) (cells : List (Option Cell)) → Went f.hierarchy kind Sees row (cells_for mid.view.held row) cells (actor_of a) x → Tells (actor_of a) (values (cells_for mid.view.held row)) (values cells) → kept_by x ≡ []
   keeps-behind x cells went told = none-kept x [] refl (kept (player n a (record mid { ranks = [] })) refl x cells went told)
@@ -131,43 +131,51 @@ module _ (f : Floor) (kind : Kind) (Sees : Setting → World → ℕ → Type 0)
       none_kept = keeps-behind (actor_of b) (cells_for stepped.new row) stepped.went stepped.told;
     }
 
-    ledger-new : IsThere stepped.new ledger_cell
-    ledger-new = find_same mid.view.held stepped.new ledger_cell there.0 (sym stepped.same_numbers) there.1
-
     knows-behind : (k : ℕ) → Knows mid k → Knows now k
     knows-behind k knows = (let it = known-either stepped.new mid.view.known k knows in (it.0, ap (λ (v : View Cell Actor Event). value_of v.known k) stepped.view ∙ it.1))
 
-    ledger-behind : Knows now ledger_cell
-    ledger-behind = (ledger-new.0, ap (λ (v : View Cell Actor Event). value_of v.known ledger_cell) stepped.view ∙ find_append_first stepped.new mid.view.known ledger_cell ledger-new.0 ledger-new.1)
+    pub stands-behind : HasTurned now last → HasEveryone f.table last → last.ranks ≡ [] → StandsSole f (player n b last)
+    stands-behind gave everyone bare = record { sole = sole-on f (player n b now) last sole-behind gave everyone; bare = bare }
 
-    pub made-behind : HasTurned now last → HasEveryone f.table last → last.ranks ≡ [] → HasMadeSole f kind Sees Tells row (player n a was) (player n b last)
-    made-behind gave everyone bare = record {
-      stands = record { sole = sole-on f (player n b now) last sole-behind gave everyone; bare = bare };
-      same = record {
-        number = refl;
-        seat_number = gave.number ∙ ap (λ (v : View Cell Actor Event). v.number) stepped.view ∙ turned.number;
-        actor_count = gave.actor_count ∙ ap (λ (v : View Cell Actor Event). v.actor_count) stepped.view ∙ turned.actor_count;
-        others = λ j ne. ap (λ (l : List (ℕ × Actor)). value_of l j) gave.actors ∙ actor-else j ne ∙ ap (λ (l : List (ℕ × Actor)). value_of l j) turned.actors;
-        setting = stepped.setting;
-        knows = λ k knows. knows-on gave k (knows-behind k (knows-on turned k knows));
-      };
-      knows = knows-on gave ledger_cell ledger-behind;
-      mid = player n a mid;
-      turned = turned;
+    pub same-behind : HasTurned now last → IsSameBut (player n a was) (player n b last)
+    same-behind gave = record {
       number = refl;
-      actor = refl;
-      at = at;
-      made = record {
-        new = stepped.new;
-        numbers = stepped.same_numbers;
-        number = refl;
-        went = stepped.went;
-        told = stepped.told;
-        seen = gave.exact ledger-behind ∙ ap (λ (v : View Cell Actor Event). v.seen) stepped.view;
-      };
-      whole = λ c e. sym (sole.holds.possible.agrees.fresh c e);
-      noted = noted-sole f (player n a mid) sole;
+      seat_number = gave.number ∙ ap (λ (v : View Cell Actor Event). v.number) stepped.view ∙ turned.number;
+      actor_count = gave.actor_count ∙ ap (λ (v : View Cell Actor Event). v.actor_count) stepped.view ∙ turned.actor_count;
+      others = λ j ne. ap (λ (l : List (ℕ × Actor)). value_of l j) gave.actors ∙ actor-else j ne ∙ ap (λ (l : List (ℕ × Actor)). value_of l j) turned.actors;
+      setting = stepped.setting;
+      knows = λ k knows. knows-on gave k (knows-behind k (knows-on turned k knows));
     }
+
+    -- where the ledger is held its history is known
+    module _ (there : IsThere mid.view.held ledger_cell) where
+      ledger-new : IsThere stepped.new ledger_cell
+      ledger-new = find_same mid.view.held stepped.new ledger_cell there.0 (sym stepped.same_numbers) there.1
+
+      ledger-behind : Knows now ledger_cell
+      ledger-behind = (ledger-new.0, ap (λ (v : View Cell Actor Event). value_of v.known ledger_cell) stepped.view ∙ find_append_first stepped.new mid.view.known ledger_cell ledger-new.0 ledger-new.1)
+
+      pub made-behind : HasTurned now last → HasEveryone f.table last → last.ranks ≡ [] → HasMadeSole f kind Sees Tells row (player n a was) (player n b last)
+      made-behind gave everyone bare = record {
+        stands = stands-behind gave everyone bare;
+        same = same-behind gave;
+        knows = knows-on gave ledger_cell ledger-behind;
+        mid = player n a mid;
+        turned = turned;
+        number = refl;
+        actor = refl;
+        at = at;
+        made = record {
+          new = stepped.new;
+          numbers = stepped.same_numbers;
+          number = refl;
+          went = stepped.went;
+          told = stepped.told;
+          seen = gave.exact ledger-behind ∙ ap (λ (v : View Cell Actor Event). v.seen) stepped.view;
+        };
+        whole = λ c e. sym (sole.holds.possible.agrees.fresh c e);
+        noted = noted-sole f (player n a mid) sole;
+      }
 
   module _ {T E : Type 0} (holds : Holds f.hierarchy f.table now n b) where
     -- in both cases the seat has everyone still
@@ -175,10 +183,10 @@ module _ (f : Floor) (kind : Kind) (Sees : Setting → World → ℕ → Type 0)
     everyone-behind (Ok x) stepped same = everyone-of f (player n b now) (sole-behind stepped holds)
     everyone-behind (Err x) stepped same = subst (HasEveryone f.table) (sym same.0) (everyone-of f (player n a mid) sole)
 
-    pub made-so : (r : Result T E) → HasTurned now last → HasEveryone f.table last → last.ranks ≡ [] → OnOk r (HasStepped f.hierarchy kind Sees Tells row mid now n a b)
+    pub made-so : IsThere mid.view.held ledger_cell → (r : Result T E) → HasTurned now last → HasEveryone f.table last → last.ranks ≡ [] → OnOk r (HasStepped f.hierarchy kind Sees Tells row mid now n a b)
         → OnOk r (HasMadeSole f kind Sees Tells row (player n a was) (player n b last))
-    made-so (Ok x) gave everyone bare stepped = made-behind stepped holds gave everyone bare
-    made-so (Err x) gave everyone bare stepped = tt
+    made-so there (Ok x) gave everyone bare stepped = made-behind stepped holds there gave everyone bare
+    made-so there (Err x) gave everyone bare stepped = tt
 
 -- Where it found no memory.
 

@@ -6,3 +6,4 @@ pub mod Calling
 pub mod Telling
 pub mod Paging
 pub mod Settling
+pub mod Reusing

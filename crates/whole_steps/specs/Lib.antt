@@ -5,6 +5,7 @@ pub mod Pages
 pub mod Done
 pub mod Settles
 pub mod Copies
+pub mod Reuses
 -- What stands below is passed on.
 pub use Rattle.core_pages.specs.link_descent
 pub use Rattle.core_pages.specs.volap_cell
@@ -14,4 +15,5 @@ pub use Rattle.call_steps.specs.volap_turns
 pub use Rattle.call_steps.specs.seat_steps
 pub use Rattle.call_steps.specs.part_steps
 pub use Rattle.call_steps.specs.session_steps
+pub use Rattle.job_steps
 pub use Rattle.call_steps

@@ -100,7 +100,7 @@ step-made-requires-clause-left g c =
     let mid = c.take_turn.new.seat in
     let row = g.S.CellStep.places c.args.what in
     let took = subst (λ (k : ℕ). TakesCell k 8 was mid) c.ledger_place.ensures c.take_turn.ensures.took in
-    still-held f (g.S.CellStep.kind c.args.what) (g.S.CellStep.sees c.args.what) (g.S.CellStep.tells c.args.what) row n a a was mid mid mid (sole-mid f n a was mid row c.requires.sole c.take_turn.ensures.everyone took c.requires.held c.requires.due) c.requires.kept (held-at f n a was mid row c.requires.sole c.take_turn.ensures.everyone took c.requires.held c.requires.due) (held-there f n a was mid row c.requires.sole c.take_turn.ensures.everyone took c.requires.held c.requires.due) took.turned
+    still-held f (g.S.CellStep.kind c.args.what) (g.S.CellStep.sees c.args.what) (g.S.CellStep.tells c.args.what) row n a a was mid mid mid (sole-mid f n a was mid row c.requires.sole c.take_turn.ensures.everyone took c.requires.held c.requires.due) c.requires.kept (held-at f n a was mid row c.requires.sole c.take_turn.ensures.everyone took c.requires.held c.requires.due) took.turned
 
 pub give_turns-requires : goal.give_turns-requires
 give_turns-requires g c =
@@ -112,7 +112,7 @@ give_turns-requires g c =
     let row = g.S.CellStep.places c.args.what in
     let took = subst (λ (k : ℕ). TakesCell k 8 was mid) c.ledger_place.ensures c.take_turn.ensures.took in
     record {
-      everyone = everyone-behind f (g.S.CellStep.kind c.args.what) (g.S.CellStep.sees c.args.what) (g.S.CellStep.tells c.args.what) row n a c.step-made.new.actor was mid c.step-made.new.seat c.step-made.new.seat (sole-mid f n a was mid row c.requires.sole c.take_turn.ensures.everyone took c.requires.held c.requires.due) c.requires.kept (held-at f n a was mid row c.requires.sole c.take_turn.ensures.everyone took c.requires.held c.requires.due) (held-there f n a was mid row c.requires.sole c.take_turn.ensures.everyone took c.requires.held c.requires.due) took.turned
+      everyone = everyone-behind f (g.S.CellStep.kind c.args.what) (g.S.CellStep.sees c.args.what) (g.S.CellStep.tells c.args.what) row n a c.step-made.new.actor was mid c.step-made.new.seat c.step-made.new.seat (sole-mid f n a was mid row c.requires.sole c.take_turn.ensures.everyone took c.requires.held c.requires.due) c.requires.kept (held-at f n a was mid row c.requires.sole c.take_turn.ensures.everyone took c.requires.held c.requires.due) took.turned
           c.step-made.ensures.holds c.step-made.result c.step-made.ensures.went c.step-made.ensures.same;
     }
 
@@ -125,8 +125,8 @@ returns-clause-made g c =
     let mid = c.take_turn.new.seat in
     let row = g.S.CellStep.places c.args.what in
     let took = subst (λ (k : ℕ). TakesCell k 8 was mid) c.ledger_place.ensures c.take_turn.ensures.took in
-    made-so f (g.S.CellStep.kind c.args.what) (g.S.CellStep.sees c.args.what) (g.S.CellStep.tells c.args.what) row n a c.step-made.new.actor was mid c.step-made.new.seat c.give_turns.new.seat (sole-mid f n a was mid row c.requires.sole c.take_turn.ensures.everyone took c.requires.held c.requires.due) c.requires.kept (held-at f n a was mid row c.requires.sole c.take_turn.ensures.everyone took c.requires.held c.requires.due) (held-there f n a was mid row c.requires.sole c.take_turn.ensures.everyone took c.requires.held c.requires.due) took.turned
-    c.step-made.ensures.holds c.step-made.result c.give_turns.ensures.turned c.give_turns.ensures.everyone c.give_turns.ensures.bare c.step-made.ensures.went
+    made-so f (g.S.CellStep.kind c.args.what) (g.S.CellStep.sees c.args.what) (g.S.CellStep.tells c.args.what) row n a c.step-made.new.actor was mid c.step-made.new.seat c.give_turns.new.seat (sole-mid f n a was mid row c.requires.sole c.take_turn.ensures.everyone took c.requires.held c.requires.due) c.requires.kept (held-at f n a was mid row c.requires.sole c.take_turn.ensures.everyone took c.requires.held c.requires.due) took.turned
+    c.step-made.ensures.holds (held-there f n a was mid row c.requires.sole c.take_turn.ensures.everyone took c.requires.held c.requires.due) c.step-made.result c.give_turns.ensures.turned c.give_turns.ensures.everyone c.give_turns.ensures.bare c.step-made.ensures.went
 
 pub returns-clause-same : goal.returns-clause-same
 returns-clause-same g c =
