@@ -5,7 +5,7 @@ use Rattle.std.specs.Prelude.{◌&&◌, ⊤, OnErr, OnOk}
 use mathlib.Core.Logic.{dite}
 use mathlib.Core.Option.{none, some}
 use native.Mathlib.Decide.{ℕ_discrete}
-use Rattle.call_steps.specs.core_admin.proofs.Collecting.FrozenGates.{phase-gate}
+use Rattle.call_steps.specs.seat_steps.specs.core_admin.proofs.Collecting.FrozenGates.{phase-gate}
 use Rattle.call_steps.specs.core_due.proofs.{Owned.lend-gate, Released.released-is}
 use Rattle.call_steps.specs.core_due.specs.{Ready.IsPrepared, Reuses.{is_released, reuse_by}}
 use Rattle.call_steps.specs.core_steps.specs.{Places.{numbers, values}, Reuses.{reuse_asks, reuse_places}, declared.reuses.ReuseStep.ReuseStep}
@@ -22,7 +22,7 @@ use Rattle.dim_hierarchy.specs.Dimension.{Dimension}
 use Rattle.job_steps.proofs.Reusing.{between-since, released-still, reuse-actor, reuse-due, reuse-few, reuse-kept}
 use Rattle.job_steps.specs.Reuses.{IsBetween, IsReleasedAt, IsReuseDue, after_reuse, last_gone}
 use Rattle.list_words.proofs.Times.{among-times}
-use Rattle.list_words.specs.Counts.{Among}
+use Rattle.list_words.specs.Counts.{Among, times}
 use Rattle.row_ledger.specs.declared.event.Event.{Event}
 use Rattle.turn_table.proofs.Numbered.{some_or_none}
 use Rattle.turn_table.specs.{Numbered.{Extends, numbers_of, value_of}, Seat.{IsInOrder, SeatValue, cell_count}, declared.view.View.View}
@@ -74,7 +74,7 @@ module _ (f : Floor) (p : Player) (sole : IsSole f p) (between : IsBetween p) wh
     released =
         let among = subst (λ (x : ActorValue). Among gate x.gone_gates) (sym it.actor) listed in
         let some = among-times gate (w.actors p.number).gone_gates among in
-        let once = it.inv.holds.reusing.listed p.number gate (ap (λ (x : ActorValue). x.role) it.actor ∙ between.role) in
+        let once : times gate (w.actors p.number).gone_gates ≡ cond (is_gone (phase_of (w.cells gate))) 1 0 = it.inv.holds.reusing.listed p.number gate (ap (λ (x : ActorValue). x.role) it.actor ∙ between.role) in
         let gone = one-true (is_gone (phase_of (w.cells gate))) (omega (arith, some, once)) in
         λ j. gone j && (unpinned gate j == 0)
 
@@ -166,7 +166,7 @@ module _ (f : Floor) (n : ℕ) (a : Actor) (mid : S) (what : ReuseStep) (sole : 
         reused = record {
           stands = stands-behind f Reuse none_seen none_told row n a b mid mid now last sole kept reuse-at (turned-self mid) stepped holds gave everyone bare;
           same = same-behind f Reuse none_seen none_told row n a b mid mid now last sole kept reuse-at (turned-self mid) stepped holds gave;
-          actor = shorter what (reuse-actor f.hierarchy {was = player n a mid} {now = player n b now} what reuse-at made);
+          actor = shorter what (reuse-actor f.hierarchy what reuse-at made);
           seen = extends-on last.view.seen now.view.seen mid.view.seen gave.seen lists;
         };
         step = what;

@@ -1,4 +1,4 @@
-use Rattle.std.proofs.Common.{ℕ, ◌<◌, ◌∙◌, List, [], ◌∷◌, ◌++◌, Option, Some, refl, sym, ap, subst, arith}
+use Rattle.std.proofs.Common.{◌≡◌, ℕ, ◌<◌, ◌∙◌, List, [], ◌∷◌, ◌++◌, Option, Some, refl, sym, ap, subst, arith}
 use mathlib.Core.Option.{none}
 use Rattle.call_steps.specs.core_steps.specs.declared.reuses.ReuseStep.TheVariants as reuse
 use Rattle.core_pages.specs.volap_cell.specs.Setting.{stock_cell}

@@ -1,4 +1,4 @@
-use Rattle.std.proofs.Common.{◌≡◌, ◌∙◌, ℕ, List, [], ◌∷◌, ◌++◌, length, Option, None, Some, ap, subst, sym, arith}
+use Rattle.std.proofs.Common.{◌≡◌, ◌∙◌, ℕ, ◌<◌, List, [], ◌∷◌, ◌++◌, length, Option, None, Some, ap, subst, sym, arith}
 use Rattle.call_steps.specs.seat_steps.proofs.Ranks.{order-none}
 use Rattle.turn_table.specs.{Numbered.value_of, Seat.{IsInOrder, SeatValue}}
 use Rattle.core_pages.specs.volap_cell.specs.{Cells.cell_of, declared.{actor.Actor.Actor, cell.Cell.Cell}}
@@ -24,7 +24,7 @@ pub take_turn-requires-clause-room : goal.take_turn-requires-clause-room
 take_turn-requires-clause-room g c = subst (λ (l : List (ℕ × Cell)). length l < 7) (sym (none-held (take_turn-requires-clause-everyone g c) c.requires.stands.bare)) (omega arith)
 
 pub last_gone_at-requires-clause-held : goal.last_gone_at-requires-clause-held
-last_gone_at-requires-clause-held g c = (c.take_turn.ensures.took.value, held-alone c.take_turn.ensures.took (none-held (take_turn-requires-clause-everyone g c) c.requires.stands.bare))
+last_gone_at-requires-clause-held g c = (c.take_turn.ensures.took.value, held-alone c.take_turn.ensures.took (none-held (everyone-of c.args.floor.now (player c.args.number c.args.actor.now c.args.seat.now) c.requires.stands.sole) c.requires.stands.bare))
 
 pub reuse_block-requires-clause-sole : goal.reuse_block-requires-clause-sole
 reuse_block-requires-clause-sole g c =
