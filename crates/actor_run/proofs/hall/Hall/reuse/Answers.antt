@@ -1,5 +1,5 @@
 use Rattle.actor_run.proofs.{Gathered.here-view, Reused.have-reused}
-use Rattle.actor_run.proofs.reuse.Hall.reuse.Goals as goal
+use Rattle.actor_run.proofs.hall.Hall.reuse.Goals as goal
 
 pub returns-clause-on : goal.returns-clause-on
 returns-clause-on g c =
