@@ -1,9 +1,9 @@
 -- All passes are in, and the administrator uses the cells of gates that are gone again: all are in still, and it knows of no such gate.
-use Rattle.std.proofs.Common.{◌≡◌, ◌≢◌, ◌∙◌, ℕ, ◌+◌, ◌<◌, ◌≤◌, true, List, [], length, get_or, set, slice_get, Option, Some, None, refl, sym, ap, subst, arith, length-set, get_or-set_other, get_or-set_same}
+use Rattle.std.proofs.Common.{◌≡◌, ◌≢◌, ◌∙◌, ℕ, ◌<◌, ◌≤◌, true, List, [], length, get_or, set, slice_get, Option, Some, None, sym, ap, subst, arith, length-set, get_or-set_other, get_or-set_same}
 use mathlib.Core.Logic.{dite}
-use native.Mathlib.Decide.{ℕ_discrete, dec_lt}
+use native.Mathlib.Decide.{ℕ_discrete}
 use Rattle.actor_run.proofs.{Gathered.{IsBack, admin-role, begun-else, role-at, role-in, stands-at}, Knowing.{none-among, none-left, none-of, none-other}, Seated.{is-actor, none-since, setting-of}}
-use Rattle.actor_run.specs.{Halls.is_admin, Passes.{AreAllIn, ArePasses, IsAbout, IsAdminOf, IsIn, IsPassesOf, PassesValue, gone_among, gone_at, gone_of, missing, passes_of}, Wholes.{HaveReused, is_admin_at}}
+use Rattle.actor_run.specs.{Halls.is_admin, Passes.{AreAllIn, ArePasses, IsAbout, IsIn, IsPassesOf, PassesValue, gone_at, gone_of, missing, passes_of}, Wholes.{HaveReused, is_admin_at}}
 use Rattle.atomic_table.specs.Seated.{TableId}
 use Rattle.row_ledger.specs.{Right.IsRight, Site.Site}
 use Rattle.script_run.specs.Places.{begins_of}

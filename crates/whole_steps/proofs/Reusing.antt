@@ -1,33 +1,31 @@
 -- Cells of gates that are gone, at the seat that has all actors. Nobody is at a part there, so no query is pinned to such a gate: each gate
 -- of the administrator's list is released, and a cell of it can be used again.
-use Rattle.std.proofs.{Common.{◌≡◌, ◌≢◌, ◌∙◌, ℕ, ◌+◌, ◌<◌, ◌≤◌, Bool, true, false, cond, IsSome, List, [], ◌∷◌, ◌++◌, length, ◌==◌, Option, Some, None, Result, Ok, Err, inl, inr, refl, sym, ap, subst, arith}, lemmas.Bool.cases_lt}
+use Rattle.std.proofs.{Common.{◌≡◌, ◌≢◌, ◌∙◌, ℕ, ◌+◌, ◌<◌, ◌≤◌, Bool, true, false, cond, IsSome, List, [], ◌∷◌, ◌++◌, length, ◌==◌, Option, Some, None, Result, inl, inr, refl, sym, ap, subst, arith}, lemmas.Bool.cases_lt}
 use Rattle.std.specs.Prelude.{◌&&◌, ⊤, OnErr, OnOk}
 use mathlib.Core.Logic.{dite}
 use mathlib.Core.Option.{none, some}
 use native.Mathlib.Decide.{ℕ_discrete}
 use Rattle.call_steps.specs.seat_steps.specs.core_admin.proofs.Collecting.FrozenGates.{phase-gate}
 use Rattle.call_steps.specs.core_due.proofs.{Owned.lend-gate, Released.released-is}
-use Rattle.call_steps.specs.core_due.specs.{Ready.IsPrepared, Reuses.{is_released, reuse_by}}
+use Rattle.call_steps.specs.core_due.specs.{Ready.IsPrepared, Reuses.is_released}
 use Rattle.call_steps.specs.core_steps.specs.{Places.{numbers, values}, Reuses.{reuse_asks, reuse_places}, declared.reuses.ReuseStep.ReuseStep}
 use Rattle.call_steps.specs.core_steps.specs.declared.reuses.ReuseStep.TheVariants as reuse
-use Rattle.call_steps.specs.seat_steps.proofs.{Around.{asked-held, seen-there, still-there, took-there, within}, Ranks.{order-more, order-none}, Since.extends-on, WithLedger.at-places}
+use Rattle.call_steps.specs.seat_steps.proofs.{Around.{asked-held, within}, Ranks.{order-more, order-none}, Since.extends-on, WithLedger.at-places}
 use Rattle.call_steps.specs.seat_steps.specs.{Booked.IsKeptAnyhow, Floors.IsAround, Made.HasMade, declared.floor.{Floor.Floor, Player.Player}}
-use Rattle.call_steps.specs.volap_turns.proofs.{Known.is, Placed.length-numbers}
+use Rattle.call_steps.specs.volap_turns.proofs.Known.{is}
 use Rattle.call_steps.specs.volap_turns.specs.{Rows.{AreAt, IsThere, cells_for}, Seats.{HasStepped, Holds, IsStillHeld}, Worlds.past}
-use Rattle.core_pages.specs.shard_store.specs.declared.gate.Phase.{Phase}
 use Rattle.core_pages.specs.shard_store.specs.declared.gate.Phase.TheVariants.{Gone}
 use Rattle.core_pages.specs.volap_cell.proofs.Sums.{sum-zero}
-use Rattle.core_pages.specs.volap_cell.specs.{Cells.{CellValue, cell_of, gate_shard, phase_of, pins_in}, Errands.read_of, Querying.pins_of, Reusing.is_gone, Setting.{Setting, actor_count, stock_cell}, Values.{ActorValue, ErrandValue, actor_of}, View.view, World.World, declared.actor.Actor.Actor, declared.cell.Cell.Cell, declared.kind.Kind.TheVariants.Reuse, declared.role.Role.TheVariants.Admin}
+use Rattle.core_pages.specs.volap_cell.specs.{Cells.{CellValue, cell_of, gate_shard, phase_of, pins_in}, Errands.read_of, Querying.pins_of, Reusing.is_gone, Setting.{Setting, actor_count}, Values.{ActorValue, ErrandValue, actor_of}, View.view, World.World, declared.actor.Actor.Actor, declared.cell.Cell.Cell, declared.kind.Kind.TheVariants.Reuse}
 use Rattle.dim_hierarchy.specs.Dimension.{Dimension}
-use Rattle.job_steps.proofs.Reusing.{between-since, released-still, reuse-actor, reuse-due, reuse-few, reuse-kept}
+use Rattle.job_steps.proofs.Reusing.{released-still, reuse-actor, reuse-few, reuse-kept}
 use Rattle.job_steps.specs.Reuses.{IsBetween, IsReleasedAt, IsReuseDue, after_reuse, last_gone}
 use Rattle.list_words.proofs.Times.{among-times}
 use Rattle.list_words.specs.Counts.{Among, times}
 use Rattle.row_ledger.specs.declared.event.Event.{Event}
-use Rattle.turn_table.proofs.Numbered.{some_or_none}
 use Rattle.turn_table.specs.{Numbered.{Extends, numbers_of, value_of}, Seat.{IsInOrder, SeatValue, cell_count}, declared.view.View.View}
 use Rattle.whole_steps.proofs.{Adding.{everyone-behind, held-below, next-cell, same-behind, stands-behind, still-held, takes-turn}, Alone.{around, everyone-of, sole-on}, Calling.{but-before, due-sole}, Paging.same-on, Turned.{held-alone, none-held, turned-self}}
-use Rattle.whole_steps.specs.{Reuses.{HasReusedCell, HasReusedSole}, Seats.{HasEveryone, HasTurned, TakesCell}, Sole.{IsSameBut, IsSole, StandsSole, player}}
+use Rattle.whole_steps.specs.{Reuses.{HasReusedCell, HasReusedSole}, Seats.{HasEveryone, HasTurned, TakesCell}, Sole.{IsSole, StandsSole, player}}
 
 abbrev S : Type 0
 S = SeatValue Cell Actor Event

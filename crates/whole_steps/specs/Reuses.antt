@@ -1,5 +1,5 @@
 -- Cells of gates that are gone, which are used again at the seat that has all actors: there no query is pinned to any of them.
-use Rattle.std.specs.Prelude.{ℕ, ◌≡◌, ⊤, List, Option}
+use Rattle.std.specs.Prelude.{◌≡◌, ⊤, List, Option}
 use Rattle.call_steps.specs.core_steps.specs.{Reuses.reuse_places, Steps.Went, declared.reuses.ReuseStep.ReuseStep}
 use Rattle.call_steps.specs.seat_steps.specs.declared.floor.{Floor.Floor, Player.Player}
 use Rattle.core_pages.specs.volap_cell.specs.{Values.actor_of, declared.cell.Cell.Cell}

@@ -1,8 +1,7 @@
-use Rattle.std.proofs.Common.{◌≡◌, ◌∙◌, ℕ, ◌<◌, List, [], ◌∷◌, ◌++◌, length, Option, None, Some, ap, subst, sym, arith}
+use Rattle.std.proofs.Common.{◌∙◌, ℕ, ◌<◌, List, [], ◌∷◌, ◌++◌, length, Option, None, Some, ap, subst, sym, arith}
 use Rattle.call_steps.specs.seat_steps.proofs.Ranks.{order-none}
 use Rattle.turn_table.specs.{Numbered.value_of, Seat.{IsInOrder, SeatValue}}
-use Rattle.core_pages.specs.volap_cell.specs.{Cells.cell_of, declared.{actor.Actor.Actor, cell.Cell.Cell}}
-use Rattle.job_steps.specs.Reuses.{last_gone}
+use Rattle.core_pages.specs.volap_cell.specs.declared.{actor.Actor.Actor, cell.Cell.Cell}
 use Rattle.row_ledger.specs.declared.event.Event.{Event}
 use Rattle.whole_steps.proofs.{Alone.{everyone-of, sole-on}, Reusing.{held-gate, listed-within, reused-before, turned-look}, Turned.{held-alone, none-held}}
 use Rattle.whole_steps.specs.Sole.{IsSole, player}
