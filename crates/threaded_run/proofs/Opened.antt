@@ -10,7 +10,7 @@ use Rattle.script_roles.proofs.Roles.{admin-at, can-open, few-in-script, numbere
 use Rattle.script_run.specs.Between.{IsThrough, OpeningLaw}
 use Rattle.hall_hands.specs.seat_steps.specs.declared.floor.Floor.{Floor}
 use Rattle.threaded_run.specs.Phases.{ArePhased}
-use Rattle.script_roles.specs.volap_cell.specs.{Setting.{Setting, actor_count}, declared.role.Role.Role, declared.role.Role.TheVariants.{Admin, Puller}}
+use Rattle.script_roles.specs.volap_cell.specs.{Setting.{Setting, actor_count, site_in}, declared.role.Role.Role, declared.role.Role.TheVariants.{Admin, Puller}}
 
 -- Lists.
 
