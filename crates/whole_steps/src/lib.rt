@@ -8,12 +8,14 @@ mod copies;
 mod histories;
 mod looks;
 mod pages;
+mod reads;
 mod settles;
 mod tells;
 mod turns;
 
 pub use calls::{begin_call, end_call, show};
 pub use histories::copy_history;
+pub use reads::{ReadsHistory, lend_history};
 pub use settles::{Settled, call_settle};
 pub use tells::{Paged, call_barrier, call_page, make_page};
 pub use turns::{give_turns, look_round, take_turn};
