@@ -17,3 +17,4 @@ pub mod Measured
 pub mod TwoSessions
 pub mod Sent
 pub mod Gathered
+pub mod Rested
