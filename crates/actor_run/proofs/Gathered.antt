@@ -204,11 +204,17 @@ module _ {s : S} {own : Actor} {actors : List (Option Actor)} (are : ArePasses s
     pub everyone-in : HasEveryone f.table s
     everyone-in = everyone-of f (player (length actors) own s) (sole-of f of (length actors) own are.own_one).sole
 
+    -- what they have seen then is right
+    pub right-then : (t : S) → HasEveryone f.table t → HasTurned s t → IsRight (site_in (actor_of own).setting) t.view.seen
+    right-then t everyone turned =
+        let has : value_of t.view.actors (length actors) ≡ some are.own_one.last = ap (λ (l : List (ℕ × Actor)). value_of l (length actors)) turned.actors ∙ are.own_one.has in
+        let setting : everyone.possible.valid.setting ≡ about = sym (setting-of everyone.possible (length actors) are.own_one.last has) ∙ ap (λ (z : ActorValue). z.setting) are.own_one.same in
+        subst (λ (z : Setting). IsRight (site_in z) t.view.seen) setting (right-whole everyone.possible everyone.every)
+
     pub turned-are : (t : S) → HasEveryone f.table t → HasTurned s t → t.ranks ≡ [] → ArePasses t own actors
     turned-are t everyone turned bare =
         let longer = extends-length s.view.seen t.view.seen turned.seen in
         let actor_is : (a : ℕ) → value_of t.view.actors a ≡ value_of s.view.actors a = λ a. ap (λ (l : List (ℕ × Actor)). value_of l a) turned.actors in
-        let setting : everyone.possible.valid.setting ≡ about = sym (setting-of everyone.possible (length actors) are.own_one.last (actor_is (length actors) ∙ are.own_one.has)) ∙ ap (λ (z : ActorValue). z.setting) are.own_one.same in
         record {
           home = everyone.home;
           bare = bare;
@@ -222,7 +228,7 @@ module _ {s : S} {own : Actor} {actors : List (Option Actor)} (are : ArePasses s
           own_one = still-at about s t (length actors) (Some own) (actor_is (length actors)) longer are.own_one;
           each = λ a lt. still-at about s t a (get_or actors a None) (actor_is a) longer (are.each a lt);
           beyond = λ a past. actor_is a ∙ are.beyond a past;
-          right = subst (λ (z : Setting). IsRight (site_in z) t.view.seen) setting (right-whole everyone.possible everyone.every);
+          right = right-then t everyone turned;
           admin = are.admin;
         }
 

@@ -19,3 +19,4 @@ pub mod TwoSessions
 pub mod Sent
 pub mod Gathered
 pub mod Reused
+pub mod Rested

@@ -43,6 +43,15 @@ pub record HaveReused (f : Floor) (was now : PassesValue) : Type 0 where
   pub right : IsRight (site_of f.with f.hierarchy) now.seen
   pub none : (k : ℕ) → begins_of now.seen k ≡ begins_of was.seen k
 
+-- All passes are in still, and what they had seen is the oldest part of what they have seen then, which is right. Nobody has begun anything.
+pub record HaveRested (f : Floor) (was now : PassesValue) : Type 0 where
+  pub own : IsPassesOf f now
+  pub all : AreAllIn now
+  pub same : now ≡ record was { seen = now.seen }
+  pub later : Extends now.seen was.seen
+  pub right : IsRight (site_of f.with f.hierarchy) now.seen
+  pub none : (k : ℕ) → begins_of now.seen k ≡ begins_of was.seen k
+
 -- The newest events are those of the administrator's call: its beginning, and these behind it. Before them stands what had been seen, or more,
 -- in which the administrator has begun nothing else.
 pub record EndsIn (call : Call) (events : ℕ → List Event) (was now : PassesValue) : Type 0 where

@@ -1,9 +1,10 @@
 //! Calls for which all passes of a hall are in: pages of the whole state, barriers and settles.
-ghost use Rattle.std.specs.Prelude.{ℕ, ◌≡◌, ◌<◌, ◌^◌, [], ◌∷◌, length, get_or, true, IfOk, IfErr, IfSome, IfNone, None, OnErr, OnOk, vec_len, vec_capacity};
+ghost use Rattle.std.specs.Prelude.{ℕ, ◌≡◌, ◌<◌, ◌^◌, List, [], ◌∷◌, length, reverse, get_or, true, IfOk, IfErr, IfSome, IfNone, None, OnErr, OnOk, vec_len, vec_capacity};
 ghost use Rattle.actor_run.specs.Passes.{AreAllIn, ArePasses, IsAbout, IsAdminOf, IsPassesOf, missing, passes_of};
-ghost use Rattle.actor_run.specs.Wholes.{AddsNothing, AreToldBy, EndsIn, HaveGoneOn, HaveNotSettled, HaveSettled, HaveSettledSo, HaveShown, IsNoMemory, IsTreeFault, is_admin_at};
+ghost use Rattle.actor_run.specs.Wholes.{AddsNothing, AreToldBy, EndsIn, HaveGoneOn, HaveNotSettled, HaveRested, HaveSettled, HaveSettledSo, HaveShown, IsNoMemory, IsTreeFault, is_admin_at};
 ghost use Rattle.row_ledger.specs.Classes.{class_of};
 ghost use Rattle.row_ledger.specs.declared.class.Class.TheVariants as class;
+ghost use Rattle.row_ledger.specs.declared.event.Event.{Event};
 ghost use Rattle.row_ledger.specs.declared.event.Event.TheVariants.{Ended};
 ghost use Rattle.row_ledger.specs.declared.settings.Call.TheVariants.{Audit, Barrier, Shards, Tree};
 ghost use Rattle.row_ledger.specs.declared.settings.How.TheVariants.{Fine};
@@ -20,7 +21,9 @@ use turn_table::Seat;
 use whole_steps::seat_steps::Floor;
 use whole_steps::volap_cell::{Actor, Role};
 use whole_steps::volap_turns::Volap;
-use whole_steps::{Paged, Settled, call_barrier, call_page, call_settle, copy_history};
+use whole_steps::{
+    Paged, ReadsHistory, Settled, call_barrier, call_page, call_settle, copy_history, lend_history,
+};
 
 /// Why the page of a tree isn't shown.
 #[derive(Clone, Copy)]
@@ -158,6 +161,25 @@ impl Hall {
         )
     }
 
+    /// Lends the whole history to a reader, while all passes are in.
+    pub fn read_history<R: Wait, T: ReadsHistory>(
+        &self,
+        rt: &R,
+        passes: &mut Passes,
+        reader: &mut T,
+    )
+        requires own { IsPassesOf self.now passes.old }
+        requires all { AreAllIn passes.old }
+        requires asked { (events : List Event) → HaveRested self.now passes.old (record passes.old { seen = reverse events }) → T.asks reader.old events }
+        ensures on { HaveRested self.now passes.old passes.new }
+        ensures told { T.tells reader.old (reverse passes.new.seen) reader.new }
+    {
+        let Some(seat) = &mut passes.seat else {
+            unreachable!()
+        };
+        lend_history(rt, &self.floor.table, seat, reader);
+    }
+
     /// `into` becomes a copy of the whole history, while all passes are in. Takes memory for it; where that is wanting, `into` is as
     /// it was.
     pub fn catch_up<R: Wait>(
@@ -169,7 +191,7 @@ impl Hall {
     ) -> Result<(), AllocError>
         requires own { IsPassesOf self.now passes.old }
         requires all { AreAllIn passes.old }
-        ensures on { HaveGoneOn self.now passes.old passes.new }
+        ensures on { HaveRested self.now passes.old passes.new }
         ensures whole { OnOk result (into.new ≡ passes.new.seen) }
         ensures same { OnErr result (into.new ≡ into.old) }
     {

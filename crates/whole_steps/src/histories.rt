@@ -1,16 +1,13 @@
 //! A copy of the whole history, made by the seat that has all actors.
-ghost use Rattle.std.specs.Prelude.{◌≡◌, ◌<◌, [], true, IfOk, OnErr, OnOk, reverse};
+ghost use Rattle.std.specs.Prelude.{◌≡◌, ◌<◌, [], true, IfOk, OnErr, OnOk};
 ghost use Rattle.turn_table.specs.Seat.{cell_count};
 ghost use Rattle.core_pages.specs.volap_cell.specs.Setting.{ledger_cell};
-ghost use Rattle.call_steps.specs.volap_turns.specs.Rule.{history_of};
 ghost use Rattle.whole_steps.specs.Copies.{is_small};
 ghost use Rattle.whole_steps.specs.Seats.{HasEveryone, HasTurned, Knows};
 
 use crate::copies::copy_page;
-use crate::turns::{ALONE, give_turns, take_turn};
-use call_steps::core_steps::ledger_place;
+use crate::reads::{ReadsHistory, lend_history};
 use call_steps::volap_turns::Volap;
-use core_pages::volap_cell::Cell;
 use describing_set::Path;
 use dim_hierarchy::copy_filter;
 use row_ledger::{Call, Event, History};
@@ -144,13 +141,24 @@ fn copy_events(alloc: Global, events: &[Event]) -> Result<Vec<Event>, AllocError
     Ok(copy)
 }
 
-/// The events of a ledger, the oldest first; none of another cell.
-fn events_in(cell: &Cell) -> &[Event]
-    ensures { reverse result.now ≡ history_of cell.now }
-{
-    match cell {
-        Cell::Ledger(ledger) => ledger.events(),
-        _ => &[],
+/// A reader that copies what it reads.
+#[derive(Drop)]
+struct Copying {
+    alloc: Global,
+    /// The copies, once it has read.
+    copied: Result<Vec<Event>, AllocError>,
+}
+
+impl ReadsHistory for Copying {
+    ghost use Rattle.std.specs.Prelude.{◌≡◌, IfOk};
+
+    ghost asks = { λ copying events. Unit {0} };
+
+    ghost tells = { λ was events now. IfOk now.copied (λ copy. copy.items ≡ events) };
+
+    /// Copies the events. Takes memory for them.
+    fn read(&mut self, events: &[Event]) {
+        self.copied = copy_events(self.alloc, events);
     }
 }
 
@@ -172,10 +180,12 @@ pub fn copy_history<R: Wait>(
     ensures all { OnOk result (into.new ≡ seat.new.view.seen) }
     ensures same { OnErr result (into.new ≡ into.old) }
 {
-    let ledger = ledger_place();
-    take_turn(rt, table, seat, ledger, ALONE);
-    let copied = copy_events(alloc, events_in(seat.see(table, ledger)));
-    give_turns(table, seat);
+    let mut copying = Copying {
+        alloc,
+        copied: Err(AllocError),
+    };
+    lend_history(rt, table, seat, &mut copying);
+    let Copying { alloc: _, copied } = copying;
     *into = History::from_vec(copied?);
     Ok(())
 }

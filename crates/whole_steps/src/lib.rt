@@ -8,6 +8,7 @@ mod copies;
 mod histories;
 mod looks;
 mod pages;
+mod reads;
 mod reuses;
 mod settles;
 mod tells;
@@ -15,6 +16,7 @@ mod turns;
 
 pub use calls::{begin_call, end_call, show};
 pub use histories::copy_history;
+pub use reads::{ReadsHistory, lend_history};
 pub use reuses::reuse_all;
 pub use settles::{Settled, call_settle};
 pub use tells::{Paged, call_barrier, call_page, make_page};
