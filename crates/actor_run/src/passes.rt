@@ -1,6 +1,7 @@
 //! The passes of a hall.
 ghost use Rattle.std.specs.Prelude.{◌≡◌, ◌+◌, ◌^◌, ◌<◌, IfSome, IfNone, None, Some, get_or, length, set, vec_len, vec_capacity};
-ghost use Rattle.whole_steps.specs.volap_cell.specs.Setting.{actor_count};
+ghost use Rattle.row_ledger.specs.Right.{IsRight};
+ghost use Rattle.whole_steps.specs.volap_cell.specs.Setting.{actor_count, site_in};
 ghost use Rattle.actor_run.specs.Passes.{HasGiven, HasTaken, IsOut, IsPass, IsPassOf, IsPassesOf, pass_of};
 
 use crate::hall::Hall;
@@ -87,6 +88,11 @@ impl Passes {
     {
         self.actors.len()
     }
+
+    /// The history that they have seen is right. Takes nothing, and changes nothing.
+    pub fn right(&self)
+        ensures { IsRight (site_in self.now.setting) self.now.seen }
+    {}
 
     /// Gives out the pass of the role at this place; `None` exactly where there is no such role, or its pass is out. Takes no memory.
     pub fn take(&mut self, hall: &Hall, number: u16) -> Option<Pass>

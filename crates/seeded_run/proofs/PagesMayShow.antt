@@ -48,7 +48,7 @@ record IsAlone (w : World) (n : ℕ) : Type 0 where
 quiet : (w : World) (n : ℕ) → IsAlone w n → (a : ℕ) → (w.actors a).errand ≡ None
 quiet w n alone a = on_bool (eqb a n) (λ q. ap (λ (b : ℕ). (w.actors b).errand) (eqb-true _ _ q) ∙ alone.free) (λ q. (alone.idle a (eqb-false _ _ q)).errand)
 
-fresh-idle : (s : Setting) (a : ℕ) (x : ActorValue) → IsFresh s a x → IsIdle x
+pub fresh-idle : (s : Setting) (a : ℕ) (x : ActorValue) → IsFresh s a x → IsIdle x
 fresh-idle s a x fresh = record { command = fresh.command; errand = fresh.errand; job = fresh.job; purse = fresh.purse; counted = fresh.counted }
 
 -- Whatever state the vectors are, it has the same cells and actors, and is about the same.

@@ -5,7 +5,7 @@ use Rattle.dim_hierarchy.specs.Dimension.{Dimension}
 use Rattle.row_ledger.specs.declared.settings.Use.{Use}
 use Rattle.core_pages.specs.volap_cell.specs.{Cells.cell_of, Filling.{actor_or, cell_or, fresh, world_of}, Opening.IsFresh, Setting.{Setting, actor_count}, Values.{ActorValue, actor_of}, World.World, declared.actor.Actor.Actor, declared.cell.Cell.Cell, declared.role.Role.TheVariants.Hand}
 use Rattle.core_pages.specs.volap_cell.proofs.Cells.States.{stands}
-use Rattle.seeded_run.specs.{Core.IsCore, Worlds.{roles_in, setting_in, world_in}}
+use Rattle.seeded_run.specs.{Core.{IsCore, IsStateOf}, Worlds.{roles_in, setting_in, world_in}}
 
 -- lists of the same length with the same items are the same
 same-items : {A : Type 0} (xs ys : List A) → length xs ≡ length ys → ((i : ℕ) → i < length xs → slice_get xs i ≡ slice_get ys i) → xs ≡ ys
@@ -36,7 +36,20 @@ is-fresh s a x past same is_fresh =
       gone_gates = is_fresh.gone_gates k;
     })
 
-module _ (h : List Dimension) (with : Use) (cells : List (Option Cell)) (actors : List (Option Actor)) (s : Setting) (w : World) (core : IsCore h with cells actors s w) where
+-- a script's core is a state
+pub state-of : (h : List Dimension) (with : Use) (cells : List (Option Cell)) (actors : List (Option Actor)) (s : Setting) (w : World) → IsCore h with cells actors s w → IsStateOf h with cells actors s w
+state-of h with cells actors s w core = record {
+  hierarchy = core.hierarchy;
+  servers = core.servers;
+  workers = core.workers;
+  stock = core.stock;
+  count = core.count;
+  places = core.places;
+  is = core.is;
+  inv = core.inv;
+}
+
+module _ (h : List Dimension) (with : Use) (cells : List (Option Cell)) (actors : List (Option Actor)) (s : Setting) (w : World) (core : IsStateOf h with cells actors s w) where
   cell-is : (y : ℕ) → w.cells y ≡ (world_of s cells actors).cells y
   cell-is y = elim (cases_lt y (length cells)) [
     | inl lt ↦
@@ -58,7 +71,7 @@ module _ (h : List Dimension) (with : Use) (cells : List (Option Cell)) (actors 
         is-fresh s a (w.actors a) past (about a) (core.is.no_actor a ge) ∙ ap (actor_or s a) (sym (get_or_past actors a None ge))
   ]
 
-  pub one-world : w ≡ world_of s cells actors
+  one-world : w ≡ world_of s cells actors
   one-world = (λ k. record { cells = λ y. cell-is y k; actors = λ a. actor-is a k })
 
   length-roles : (xs : List (Option Actor)) → length (roles_in xs) ≡ length xs
@@ -76,8 +89,16 @@ module _ (h : List Dimension) (with : Use) (cells : List (Option Cell)) (actors 
       let k = stands (get_or actors a None) (λ x. actor_of x ≡ w.actors a) (core.is.actor a within) in
       core.inv.holds.numbering.role a lt ∙ ap (λ (x : ActorValue). Some x.role) (sym k.2) ∙ sym (role-there actors a k.0 k.1)))
 
+  pub its-setting : s ≡ setting_in h with actors
+  its-setting = (λ k. record { hierarchy = core.hierarchy k; servers = core.servers k; workers = core.workers k; stock_cells = core.stock k; roles = roles-are k })
+
+  pub its-world : w ≡ world_in h with cells actors
+  its-world = one-world ∙ ap (λ (t : Setting). world_of t cells actors) its-setting
+
+-- So it is of a script's core.
+module _ (h : List Dimension) (with : Use) (cells : List (Option Cell)) (actors : List (Option Actor)) (s : Setting) (w : World) (core : IsCore h with cells actors s w) where
   pub one-setting : s ≡ setting_in h with actors
-  one-setting = (λ k. record { hierarchy = core.hierarchy k; servers = core.servers k; workers = core.workers k; stock_cells = core.stock k; roles = roles-are k })
+  one-setting = its-setting h with cells actors s w (state-of h with cells actors s w core)
 
   pub only-world : w ≡ world_in h with cells actors
-  only-world = one-world ∙ ap (λ (t : Setting). world_of t cells actors) one-setting
+  only-world = its-world h with cells actors s w (state-of h with cells actors s w core)

@@ -18,6 +18,22 @@ pub record IsCore (h : List Dimension) (with : Use) (cells : List (Option Cell))
   pub is : IsWorldOf cells actors w
   pub inv : Inv s w
 
+-- The same, whatever its actors are there for.
+pub record IsStateOf (h : List Dimension) (with : Use) (cells : List (Option Cell)) (actors : List (Option Actor)) (s : Setting) (w : World) : Type 0 where
+  pub hierarchy : s.hierarchy ≡ h
+  pub servers : s.servers ≡ with.servers
+  pub workers : s.workers ≡ with.workers
+  pub stock : s.stock_cells ≡ with.cells
+  pub count : length actors ≡ actor_count s
+  pub places : length cells ≡ cell_count s
+  pub is : IsWorldOf cells actors w
+  pub inv : Inv s w
+
+pub record HasState (h : List Dimension) (with : Use) (cells : List (Option Cell)) (actors : List (Option Actor)) : Type 0 where
+  pub setting : Setting
+  pub world : World
+  pub is_state : IsStateOf h with cells actors setting world
+
 pub record HasCore (h : List Dimension) (with : Use) (cells : List (Option Cell)) (actors : List (Option Actor)) : Type 0 where
   pub setting : Setting
   pub world : World

@@ -79,7 +79,7 @@ module _ (f : Floor) (phase : List Command) (many : ℕ) (last : Command) (at : 
         came-weaker f session front past now false true (λ e. refl) (came-on f session front past between now false (does session) (nothing session)))
 
 pub back-twice : (f : Floor) (was mid now : PassesValue) → AreBack f was mid → AreBack f mid now → AreBack f was now
-back-twice f was mid now first second = record { phased = second.phased; later = later-then was.seen mid.seen now.seen first.later second.later }
+back-twice f was mid now first second = record { phased = second.phased; setting = second.setting ∙ first.setting; later = later-then was.seen mid.seen now.seen first.later second.later }
 
 -- Events behind it that begin nothing.
 

@@ -197,6 +197,7 @@ module _ (f : Floor) (commands : List Command) (was : PassesValue) where
         roles = subst (λ (s : Setting). (n : ℕ) (r : Role) → n + 1 < actor_count s → slice_get s.roles n ≡ Some r → IsNumbered r f.with n) (sym some.setting) phased.roles;
         last = subst (λ (s : Setting). (n : ℕ) → n + 1 ≡ actor_count s → slice_get s.roles n ≡ Some Puller) (sym some.setting) phased.last;
       };
+      setting = some.setting;
       later = some.later;
     }
 

@@ -98,6 +98,7 @@ module _ (f : Floor) (was now : PassesValue) (phased : ArePhased f was) (on : Ha
           roles = subst (λ (s : Setting). (n : ℕ) (r : Role) → n + 1 < actor_count s → slice_get s.roles n ≡ Some r → IsNumbered r f.with n) (sym same) phased.roles;
           last = subst (λ (s : Setting). (n : ℕ) → n + 1 ≡ actor_count s → slice_get s.roles n ≡ Some Puller) (sym same) phased.last;
         };
+        setting = same;
         later = on.later;
       }
 

@@ -25,6 +25,7 @@ pub record ArePhased (f : Floor) (p : PassesValue) : Type 0 where
 -- all are in again, and have seen more
 pub record AreBack (f : Floor) (was now : PassesValue) : Type 0 where
   pub phased : ArePhased f now
+  pub setting : now.setting ≡ was.setting
   pub later : Extends now.seen was.seen
 
 -- Meanwhile.

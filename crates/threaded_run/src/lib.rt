@@ -13,3 +13,6 @@ mod threads;
 pub use opening::open;
 pub use phase::run_phase;
 pub use phases::run_together;
+
+// What stands below is passed on.
+pub use hall_hands::actor_run;
