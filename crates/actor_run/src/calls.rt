@@ -1,5 +1,5 @@
 //! What a session's calls do at its seat.
-ghost use Rattle.std.specs.Prelude.{ℕ, ◌≡◌, ◌<◌, List, All, length, IfSome, IfNone, IfOk, IfErr, OnOk, OnErr};
+ghost use Rattle.std.specs.Prelude.{ℕ, ◌≡◌, ◌<◌, ◌≤◌, List, All, length, IfSome, IfNone, IfOk, IfErr, OnOk, OnErr};
 ghost use Rattle.actor_run.specs.Cursors.{IsNoAnswer};
 ghost use Rattle.actor_run.specs.Doing.{Does, HasDone, HasTold, HasRefused};
 ghost use Rattle.actor_run.specs.Sessions.{BeganNothing, EndedQuery, EndsSync, IsSession, TriesInsert, TriesQuery};
@@ -19,6 +19,7 @@ use std::alloc::{AllocError, Global};
 use std::sync::Wait;
 use volap_io::Meet;
 use whole_steps::call_steps::Synced as Pulled;
+use whole_steps::part_steps::Steps;
 use whole_steps::seat_steps::{Floor, Player};
 use whole_steps::session_steps::{
     Begun, End, begin_insert, begin_query, hear, note_refused, note_unknown,
@@ -75,7 +76,9 @@ fn insert_at<R: Wait + Sync, M: Meet>(
         refuse(rt, alloc, floor, player, seen)?;
         return Ok(Inserted::NoMemory);
     };
-    let end = drive(rt, alloc, floor, bell, player, meet);
+    // The steps of an insert are not counted.
+    let mut steps = Steps::new();
+    let end = drive(rt, alloc, floor, bell, player, meet, &mut steps);
     *seen = player.actor.seen;
     match end {
         End::Acked => Ok(Inserted::Ok { of }),
@@ -85,7 +88,7 @@ fn insert_at<R: Wait + Sync, M: Meet>(
 }
 
 /// The session asks for the aggregate of the rows that match these picks by name. It is an error where memory is wanting and
-/// nothing of the query stands in the history. `seen` is then how many events the session has seen.
+/// nothing of the query stands in the history. `seen` is then how many events the session has seen. The steps are counted.
 pub(crate) fn query<R: Wait + Sync, M: Meet>(
     rt: &R,
     alloc: Global,
@@ -96,6 +99,7 @@ pub(crate) fn query<R: Wait + Sync, M: Meet>(
     seen: &mut u64,
     filter: &NameFilter,
     meet: &M,
+    steps: &mut Steps,
 ) -> Result<Asked, AllocError>
     requires session { (server : ℕ) × IsSession floor.now server player.old }
     requires count { length filter.now ≡ length floor.now.hierarchy }
@@ -103,9 +107,12 @@ pub(crate) fn query<R: Wait + Sync, M: Meet>(
     requires dims { 0 < length floor.now.hierarchy }
     ensures does { Does floor.now (TriesQuery result filter.now) player.old player.new }
     ensures seen { seen.new ≡ length player.new.seat.view.seen }
+    ensures kept { steps.old ≤ steps.new }
 {
     match filter_for(rt, alloc, floor, player, seen, filter)? {
-        Ok(picks) => query_with(rt, alloc, floor, bell, hands, player, seen, picks, meet),
+        Ok(picks) => query_with(
+            rt, alloc, floor, bell, hands, player, seen, picks, meet, steps,
+        ),
         Err(answer) => Ok(answer),
     }
 }
@@ -121,18 +128,20 @@ fn query_with<R: Wait + Sync, M: Meet>(
     seen: &mut u64,
     filter: Filter,
     meet: &M,
+    steps: &mut Steps,
 ) -> Result<Asked, AllocError>
     requires session { (server : ℕ) × IsSession floor.now server player.old }
     requires filter { IsFilterOf floor.now.hierarchy filter }
     requires dims { 0 < length floor.now.hierarchy }
     ensures does { (names : List NamePick) → IsFilterNamed floor.now.hierarchy names filter → Does floor.now (TriesQuery result names) player.old player.new }
     ensures seen { seen.new ≡ length player.new.seat.view.seen }
+    ensures kept { steps.old ≤ steps.new }
 {
     let Some(of) = ask(rt, alloc, floor, bell, hands, player, filter) else {
         refuse(rt, alloc, floor, player, seen)?;
         return Ok(Asked::NoMemory);
     };
-    let end = drive(rt, alloc, floor, bell, player, meet);
+    let end = drive(rt, alloc, floor, bell, player, meet, steps);
     *seen = player.actor.seen;
     match end {
         End::Acked => unreachable!(),

@@ -14,6 +14,7 @@ use std::snapshot::Snapshot;
 use std::sync::Wait;
 use turn_table::Busy;
 use volap_io::Quiet;
+use whole_steps::part_steps::Steps;
 use whole_steps::seat_steps::Player;
 use whole_steps::session_steps::{End, noted_by, reserve_notes, try_visit};
 
@@ -93,6 +94,8 @@ impl<'a> Cursor<'a> {
             of,
             ..
         } = self;
+        // The steps of a cursor are not counted.
+        let mut steps = Steps::new();
         let end = drive(
             rt,
             alloc,
@@ -100,6 +103,7 @@ impl<'a> Cursor<'a> {
             hall.bell(server),
             &mut player,
             &Quiet,
+            &mut steps,
         );
         let seen = player.actor.seen;
         let session = Session {

@@ -1,5 +1,5 @@
 //! A session's open command, to its end.
-ghost use Rattle.std.specs.Prelude.{◌≡◌};
+ghost use Rattle.std.specs.Prelude.{◌≡◌, ◌≤◌};
 ghost use Rattle.actor_run.specs.Driving.{EndsSince, GoesSince, IsOpenSince};
 ghost use Rattle.whole_steps.specs.seat_steps.specs.declared.floor.Player.{Player};
 
@@ -7,13 +7,13 @@ use crate::bell::Bell;
 use std::alloc::Global;
 use std::sync::Wait;
 use volap_io::Meet;
-use whole_steps::part_steps::{Did, go_on_at_part};
+use whole_steps::part_steps::{Did, Steps, go_on_at_part};
 use whole_steps::seat_steps::{Floor, Player};
 use whole_steps::session_steps::{End, Next, go_on_with_command};
 use whole_steps::volap_cell::{Actor, Command, Work};
 
 /// The session goes on with its command until it ends: it makes the steps of its parts itself, and sleeps where its server's desk
-/// has the command of another session, or another actor is at the last part.
+/// has the command of another session, or another actor is at the last part. What it does for parts of a query is counted.
 pub(crate) fn drive<R: Wait + Sync, M: Meet>(
     rt: &R,
     alloc: Global,
@@ -21,12 +21,14 @@ pub(crate) fn drive<R: Wait + Sync, M: Meet>(
     bell: &Bell,
     player: &mut Player,
     meet: &M,
+    steps: &mut Steps,
 ) -> End
     requires open { IsOpenSince floor.now player.old player.old }
     ensures ends { EndsSince floor.now result player.old player.new }
+    ensures kept { steps.old ≤ steps.new }
 {
     for _ in rt.forever() {
-        match go_on(rt, alloc, floor, bell, player, meet) {
+        match go_on(rt, alloc, floor, bell, player, meet, steps) {
             None => {}
             Some(end) => return end,
         }
@@ -42,12 +44,14 @@ fn go_on<R: Wait + Sync, M: Meet>(
     bell: &Bell,
     player: &mut Player,
     meet: &M,
+    steps: &mut Steps,
 ) -> Option<End>
     requires command { (start : Player) × IsOpenSince floor.now start player.old }
     ensures goes { (start : Player) → IsOpenSince floor.now start player.old → GoesSince floor.now result start player.new }
+    ensures kept { steps.old ≤ steps.new }
 {
     if player.actor.errand.is_some() {
-        match go_on_at_part(rt, alloc, floor, player) {
+        match go_on_at_part(rt, alloc, floor, player, steps) {
             Did::Step => {}
             Did::Visit => meet.pass(rt, 3),
             Did::End => meet.pass(rt, 2),

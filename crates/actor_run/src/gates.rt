@@ -20,7 +20,7 @@ use dim_hierarchy::{Filter, NameFilter};
 use std::alloc::Global;
 use std::snapshot::Snapshot;
 use std::sync::Wait;
-use whole_steps::part_steps::go_on_at_part;
+use whole_steps::part_steps::{Steps, go_on_at_part};
 use whole_steps::seat_steps::{Floor, Player};
 use whole_steps::session_steps::take_waiting;
 use whole_steps::volap_cell::Task;
@@ -110,7 +110,9 @@ fn go_nearer<R: Wait>(rt: &R, alloc: Global, floor: &Floor, player: &mut Player)
         None => take_waiting(rt, alloc, floor, player),
         Some(errand) => match &errand.task {
             Task::Unread(_) => {
-                go_on_at_part(rt, alloc, floor, player);
+                // The steps of a cursor are not counted.
+                let mut steps = Steps::new();
+                go_on_at_part(rt, alloc, floor, player, &mut steps);
                 true
             }
             _ => false,

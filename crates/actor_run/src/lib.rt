@@ -25,6 +25,7 @@ pub use session::{Asked, Inserted, Session, Synced};
 pub use turn_table::Busy;
 pub use whole::TreeFault;
 pub use whole_steps::ReadsHistory;
+pub use whole_steps::part_steps::Steps;
 
 // What stands below is passed on.
 pub use whole_steps;

@@ -1,5 +1,5 @@
 //! The calls of a session.
-ghost use Rattle.std.specs.Prelude.{◌≡◌, length, All, IfOk, IfErr};
+ghost use Rattle.std.specs.Prelude.{◌≡◌, ◌≤◌, length, All, IfOk, IfErr};
 ghost use Rattle.actor_run.specs.Cursors.{IsCursorFor, IsNoAnswer};
 ghost use Rattle.actor_run.specs.Passes.{IsPassOf};
 ghost use Rattle.actor_run.specs.Sessions.{BecomesPass, DoesInsert, DoesQuery, DoesSync, DoesTryInsert, DoesTryQuery, IsPassFor, IsSessionRole, IsSessionWith, session_of};
@@ -18,6 +18,7 @@ use std::marker::Model;
 use std::snapshot::Snapshot;
 use std::sync::Wait;
 use volap_io::Meet;
+use whole_steps::part_steps::Steps;
 use whole_steps::seat_steps::Player;
 use whole_steps::session_steps::{come, empty_purse, hear, leave};
 use whole_steps::volap_cell::Role;
@@ -141,19 +142,22 @@ impl<'a> Session<'a> {
         )
     }
 
-    /// Asks for the aggregate of the rows that match these picks by name, one for each dimension.
+    /// Asks for the aggregate of the rows that match these picks by name, one for each dimension. Its steps are
+    /// counted: each turn of a table, a gate or a block that this call takes, and each row that it tests.
     pub fn query<R: Wait + Sync, M: Meet>(
         &mut self,
         rt: &R,
         alloc: Global,
         filter: &NameFilter,
         meet: &M,
+        steps: &mut Steps,
     ) -> Asked
         requires count { length filter.now ≡ length self.old.floor.hierarchy }
         requires some { All IsNamePick filter.now }
         ensures does { DoesQuery result filter.now self.old self.new }
+        ensures kept { steps.old ≤ steps.new }
     {
-        match self.try_query(rt, alloc, filter, meet) {
+        match self.try_query(rt, alloc, filter, meet, steps) {
             Ok(asked) => asked,
             Err(_) => Asked::NoMemory,
         }
@@ -166,10 +170,12 @@ impl<'a> Session<'a> {
         alloc: Global,
         filter: &NameFilter,
         meet: &M,
+        steps: &mut Steps,
     ) -> Result<Asked, AllocError>
         requires count { length filter.now ≡ length self.old.floor.hierarchy }
         requires some { All IsNamePick filter.now }
         ensures does { DoesTryQuery result filter.now self.old self.new }
+        ensures kept { steps.old ≤ steps.new }
     {
         let hall = self.hall;
         query(
@@ -182,6 +188,7 @@ impl<'a> Session<'a> {
             &mut self.seen,
             filter,
             meet,
+            steps,
         )
     }
 

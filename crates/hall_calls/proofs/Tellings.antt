@@ -99,12 +99,12 @@ answers names was now n rows (asked.Answer of agg) are does =
 answers names was now n rows (asked.Unknown dim) are does = tt
 answers names was now n rows asked.NoMemory are does = tt
 
-pub told : (names : List NamePick) (was now : SessionValue) (n : ℕ) (rows : List Row) (answer : Asked) → AreOwn (teller_of was) was.seen n rows → DoesQuery answer names was now
-    → IsTold now.floor.hierarchy names (teller_of now) now.seen (record { acked = n; answer = answer })
-told names was now n rows answer are does = record { rows = rows; inserted = inserted-still was now n rows are does.goes; answer = answers names was now n rows answer are does }
+pub told : (names : List NamePick) (was now : SessionValue) (n : ℕ) (rows : List Row) (answer : Asked) (steps : ℕ) → AreOwn (teller_of was) was.seen n rows → DoesQuery answer names was now
+    → IsTold now.floor.hierarchy names (teller_of now) now.seen (record { acked = n; answer = answer; steps = steps })
+told names was now n rows answer steps are does = record { rows = rows; inserted = inserted-still was now n rows are does.goes; answer = answers names was now n rows answer are does }
 
-pub told-own : (names : List NamePick) (was now : SessionValue) (n : ℕ) (answer : Asked) → HasOwn was n → DoesQuery answer names was now → IsTold now.floor.hierarchy names (teller_of now) now.seen (record { acked = n; answer = answer })
-told-own names was now n answer has does = told names was now n has.0 answer has.1 does
+pub told-own : (names : List NamePick) (was now : SessionValue) (n : ℕ) (answer : Asked) (steps : ℕ) → HasOwn was n → DoesQuery answer names was now → IsTold now.floor.hierarchy names (teller_of now) now.seen (record { acked = n; answer = answer; steps = steps })
+told-own names was now n answer steps has does = told names was now n has.0 answer steps has.1 does
 
 -- What is told stays so.
 

@@ -5,7 +5,7 @@ ghost use Rattle.dim_hierarchy.specs.Names.{IsNamePick};
 use crate::{Places, Told, count_on_two_threads};
 use actor_run::Asked;
 use actor_run::volap_cell::{Cell, State};
-use dim_hierarchy::{Hierarchy, Name, NameFilter, NamePick, RowNames};
+use dim_hierarchy::{Hierarchy, Name, NameFilter, NamePick, Names, RowNames};
 use row_ledger::Event;
 use std::alloc::{AllocError, Global};
 use std::test::Fail;
@@ -47,6 +47,18 @@ fn all_rows(alloc: Global) -> Result<NameFilter, AllocError>
     let mut all = NameFilter::new(alloc);
     all.push(NamePick::All)?;
     Ok(all)
+}
+
+/// The question for the rows of a town.
+fn rows_of(alloc: Global, town: &[u8]) -> Result<NameFilter, AllocError>
+    ensures one { IfOk result (λ picks. length picks ≡ 1) }
+    ensures some { IfOk result (All IsNamePick) }
+{
+    let mut names = Names::new(alloc);
+    names.push(Name::from_bytes(alloc, town)?)?;
+    let mut picks = NameFilter::new(alloc);
+    picks.push(NamePick::Any(names))?;
+    Ok(picks)
 }
 
 /// How many inserts were acknowledged, by the history of a state.
@@ -91,5 +103,30 @@ fn each_session_counts_its_own_rows_at_least(rt: HostRuntime) -> Result<(), Fail
         assert!(rt; 100 <= count && count <= 200);
     }
     assert_eq!(rt; acked_in(&state), 200);
+    Ok(())
+}
+
+#[test]
+fn steps_are_few_for_all_rows_and_some_for_a_town(rt: HostRuntime) -> Result<(), Fail> {
+    let alloc = rt.alloc();
+    let one = &row(alloc, b"berlin")?;
+    let other = &row(alloc, b"munich")?;
+    let all = &all_rows(alloc)?;
+    let town = &rows_of(alloc, b"munich")?;
+    let places = Places {
+        one,
+        other,
+        asked: all,
+    };
+    let (_, first, second) = count_on_two_threads(&rt, alloc, towns(alloc)?, 2000, &places, 33)?;
+    // A worker that never had more than one shard: its table and the gate.
+    assert!(rt; first.steps <= 4 && second.steps <= 4);
+    let places = Places {
+        one,
+        other,
+        asked: town,
+    };
+    let (_, first, second) = count_on_two_threads(&rt, alloc, towns(alloc)?, 2000, &places, 33)?;
+    assert!(rt; 2 <= first.steps && 2 <= second.steps);
     Ok(())
 }

@@ -4,7 +4,7 @@ ghost use Rattle.actor_run.specs.Passes.{IsPassOf};
 ghost use Rattle.actor_run.specs.Sessions.{IsSessionRole};
 ghost use Rattle.hall_calls.specs.Tells.{AreNamesFor, HasOwn, HasWorked, IsTold, teller_of};
 
-use actor_run::{Asked, Hall, Inserted, Pass, Session};
+use actor_run::{Asked, Hall, Inserted, Pass, Session, Steps};
 use dim_hierarchy::{NameFilter, RowNames};
 use std::alloc::Global;
 use std::sync::Wait;
@@ -18,11 +18,12 @@ pub struct Places<'a> {
     pub asked: &'a NameFilter,
 }
 
-/// What a session tells: how many of its inserts were acknowledged, and how its query ended.
+/// What a session tells: how many of its inserts were acknowledged, how its query ended, and how many steps that took.
 #[derive(Clone, Copy)]
 pub struct Told {
     pub acked: u64,
     pub answer: Asked,
+    pub steps: u64,
 }
 
 /// Inserts a row of measure 1. `acked` inserts were acknowledged before, and the answer is how many are then.
@@ -92,8 +93,13 @@ pub fn insert_and_ask<'a, R: Wait + Sync>(
     ensures told { IsTold session.new.floor.hierarchy places.now.asked.now (teller_of session.new) session.new.seen result }
 {
     let acked = insert_in_turn(rt, alloc, session, places, count);
-    let answer = session.query(rt, alloc, places.asked, &Quiet);
-    Told { acked, answer }
+    let mut steps = Steps::new();
+    let answer = session.query(rt, alloc, places.asked, &Quiet, &mut steps);
+    Told {
+        acked,
+        answer,
+        steps: steps.count(),
+    }
 }
 
 /// Makes the session of a pass, does this with it, and gives the pass back.

@@ -5,7 +5,7 @@ ghost use Rattle.hall_calls.specs.Passing.{CanWork, IsBack};
 use crate::board::Board;
 use crate::judge::{Counts, is_allowed};
 use crate::plan::{COMMANDS, Plan, Task, task_of};
-use hall_calls::actor_run::{Asked, Hall, Inserted, Pass, Session};
+use hall_calls::actor_run::{Asked, Hall, Inserted, Pass, Session, Steps};
 use measure_agg::Agg;
 use std::alloc::Global;
 use std::sync::Wait;
@@ -101,7 +101,8 @@ fn query<'a, R: Wait + Sync>(
     ensures same { session.new ≡ record session.old { seen = session.new.seen } }
 {
     let must = job.board.must(job.server, round);
-    let end = session.query(rt, job.alloc, job.plan.question(round), &Quiet);
+    let mut steps = Steps::new();
+    let end = session.query(rt, job.alloc, job.plan.question(round), &Quiet, &mut steps);
     let seen = session.seen();
     let may = job.board.may(round);
     match end {
@@ -142,7 +143,8 @@ fn query_unknown<'a, R: Wait + Sync>(
     requires one { length session.old.floor.hierarchy ≡ 1 }
     ensures same { session.new ≡ record session.old { seen = session.new.seen } }
 {
-    let end = session.query(rt, job.alloc, &job.plan.no_question, &Quiet);
+    let mut steps = Steps::new();
+    let end = session.query(rt, job.alloc, &job.plan.no_question, &Quiet, &mut steps);
     match end {
         Asked::Answer { .. } => report.unknown(false),
         Asked::Unknown { dim } => report.unknown(dim == 0),

@@ -6,7 +6,7 @@ ghost use Rattle.session_steps.specs.volap_cell.specs.Values.{actor_of};
 
 use crate::hands::{Found, look_for_part};
 use session_steps::empty_purse;
-use session_steps::part_steps::{Did, go_on_at_part};
+use session_steps::part_steps::{Did, Steps, go_on_at_part};
 use session_steps::seat_steps::{Floor, Player};
 use std::alloc::Global;
 use std::sync::Wait;
@@ -57,7 +57,9 @@ fn do_part<R: Wait + Sync, M: Meet>(
             empty_purse(rt, alloc, floor, player);
             return;
         }
-        if let Did::Visit = go_on_at_part(rt, alloc, floor, player) {
+        // The steps of a hand are not counted.
+        let mut steps = Steps::new();
+        if let Did::Visit = go_on_at_part(rt, alloc, floor, player, &mut steps) {
             meet.pass(rt, 3);
         }
     }

@@ -5,6 +5,7 @@ pub mod Keeping
 pub mod PartsLed
 pub mod PartsMade
 pub mod PartsSure
+pub mod QueryCosts
 pub mod RowsDown
 pub mod RowsIn
 pub mod RowsMade

@@ -1,15 +1,16 @@
 -- A part before its gate: the turns that it waits for, where the held table leads it, and how its row comes in there.
-use Rattle.std.proofs.Common.{◌≡◌, ◌∙◌, ℕ, ◌<◌, true, false, [], ◌∷◌, Some, sym, ap, subst, arith}
-use Rattle.seat_steps.specs.core_due.specs.Due.{may_enter}
+use Rattle.std.proofs.{Common.{◌≡◌, ◌∙◌, ℕ, ◌<◌, ◌==◌, ◌&&◌, true, false, [], ◌∷◌, Some, IsSome, sym, ap, subst, arith}, lemmas.Bool.{and_parts, eqb-true, or_right}}
+use Rattle.seat_steps.specs.core_due.specs.Due.{led_to, may_enter}
 use Rattle.seat_steps.specs.core_due.proofs.StepsPrepared.{carried-own}
 use Rattle.dc_node.specs.Block.{is_leaf}
 use Rattle.part_steps.specs.{Parts.{HasWay, IsLed, IsRouteOf, MayWaitFor}, Rows.{IsToDescend, IsToEnter}, declared.parts.Route.Route}
 use Rattle.seat_steps.specs.{Floors.{IsSeated, at_block, kept_by, kept_on}, Looks.{Sees, lead_of}, declared.{floor.{Floor.Floor, Player.Player}, looks.Lead.Lead}}
 use Rattle.seat_steps.specs.declared.looks.Lead.TheVariants as lead
-use Rattle.part_steps.proofs.{PartsSure.{gate-there, leads-in, led-map, map-in, seen-in, table-there, with-around}, Takings.{first-turn, second-turn}}
+use Rattle.part_steps.proofs.{PartsSure.{errand-in, gate-there, lead-nowhere, leads-in, led-map, led-there, map-in, seen-in, table-there, with-around}, Takings.{first-turn, second-turn}}
 use Rattle.seat_steps.proofs.Around.{around, kept-there, within}
+use Rattle.query_router.specs.{Desk.{is_open, is_taken, is_waiting}, declared.part.Part.Part}
 use Rattle.turn_table.specs.Seat.{cell_count, free_rank}
-use Rattle.seat_steps.specs.volap_cell.specs.{Cells.{block_in, where_in}, Errands.{block_at, place_of, way_in_task, way_of}, Setting.map_cell, Values.{ActorValue, ErrandValue, TaskValue, actor_of}, declared.errand.Way.Way}
+use Rattle.seat_steps.specs.volap_cell.specs.{Cells.{block_in, where_in}, Errands.{block_at, place_of, taken_by, taken_of, way_in_task, way_of}, Setting.map_cell, Values.{ActorValue, ErrandValue, TaskValue, actor_of}, View.view, declared.errand.Way.Way}
 use Rattle.seat_steps.specs.volap_cell.specs.declared.errand.Way.TheVariants as way
 use Rattle.seat_steps.specs.volap_turns.specs.Rows.{IsThere}
 
@@ -48,6 +49,21 @@ module _ (f : Floor) (p : Player) (seated : IsSeated f p) where
           leads = leads-in f p map gate led s w is on.e on.has.errand;
           may = ap (may_enter (w.cells gate)) at.actor ∙ seen-in f p s w is gate (λ cell. may_enter cell a ≡ true) there opens;
         }
+
+  -- it leads somewhere: each part that an actor is at is one of its desk, and is in the table of its worker
+  module _ (map : ℕ) (e : ErrandValue) (errand : a.errand ≡ Some e) where
+    pub led-somewhere : {X : Type 0} → IsLed f p map lead.Nowhere → X
+    led-somewhere led =
+        let (s, w, is_around) = around f p seated in
+        let at = with-around f p s w is_around in
+        let i = at.inv.holds in
+        let here = i.desking.at_parts p.number (taken_by e) (ap taken_of (errand-in f p s w at e errand)) in
+        let q : Part = here.part.1 in
+        let both = and_parts (q.shard == e.shard && q.worker == e.worker) (is_taken q) here.part.4 in
+        let is = and_parts (q.shard == e.shard) (q.worker == e.worker) both.0 in
+        let known = subst (λ (r : Part). is_open r ≡ true → (r.worker < s.workers) × IsSome ((view s w).maps r.worker r.shard)) here.part.3 (i.leading.parts e.server here.within here.part.0 q here.part.2) (or_right (is_waiting q) (is_taken q) both.1) in
+        let some : IsSome (led_to s w e) = subst (λ (r : ℕ × ℕ). IsSome ((view s w).maps r.0 r.1)) (λ k. (eqb-true q.worker e.worker is.1 k, eqb-true q.shard e.shard is.0 k)) known.1 in
+        lead-nowhere (led_to s w e) some (led-there f p s w at map lead.Nowhere led e errand)
 
   -- A row that is carried.
 

@@ -9,7 +9,7 @@ use Rattle.dim_hierarchy.specs.Dimension.{Dimension}
 use Rattle.list_words.specs.Counts.{Each}
 use Rattle.row_ledger.specs.declared.event.Event.{Event}
 use Rattle.part_steps.specs.{Goings.{IsBesidePart, WentOn}, Parts.{CanEndPart, IsPartSure, IsTreeSure, IsUnread, MayWaitFor}}
-use Rattle.seat_steps.specs.{Floors.{IsSeated, Stands}, Made.{HasMade, IsKeptBy}, Takes.{GaveAll, IsSameActor}, declared.floor.{Floor.Floor, Player.Player}}
+use Rattle.seat_steps.specs.{Floors.{IsSeated, Stands}, Made.{HasMade, IsKeptBy}, Takes.IsSameActor, declared.floor.{Floor.Floor, Player.Player}}
 use Rattle.part_steps.proofs.{Keeping.{IsNoBalance, at-part-no-balance, part-beside, part-kept, tree-beside}, PartsSure.with-around, Takings.{all-at, first-turn, second-turn}, Unvisited.{part-unvisited, tree-unvisited}}
 use Rattle.seat_steps.proofs.Around.{around, asked-held, within}
 use Rattle.turn_table.specs.Numbered.{Extends, numbers_of}
@@ -137,13 +137,3 @@ module _ (f : Floor) (was mid now : Player) where
   -- cells were taken before
   pub went-taken : IsSameActor was mid → WentOn f mid now → WentOn f was now
   went-taken same went = went-behind same.number (ap actor_of same.actor) same.seen went
-
--- what was held was given back
-pub went-nowhere : (f : Floor) (was now : Player) → Stands f now → GaveAll was now → WentOn f was now
-went-nowhere f was now stands gave = record {
-  stands = stands;
-  number = gave.number;
-  beside = subst (λ (x : ActorValue). IsBesidePart x (actor_of now.actor)) (ap actor_of gave.actor) refl;
-  seen = ([], gave.seen);
-  unvisited = λ u. inr (inl (subst IsUnread (ap actor_of (sym gave.actor)) u));
-}

@@ -1,5 +1,5 @@
 -- The steps of a part at a seat, each where it is due: what it asks is so in each state that has the actor and the cells that it holds.
-use Rattle.std.proofs.Common.{◌≡◌, ◌≢◌, ◌∙◌, ℕ, ◌+◌, ◌<◌, inl, inr, Bool, true, false, not, [], is_some, Option, Some, None, refl, sym, ap, subst}
+use Rattle.std.proofs.Common.{◌≡◌, ◌≢◌, ◌∙◌, ℕ, ◌+◌, ◌<◌, inl, inr, Bool, true, false, not, [], is_some, IsSome, Option, Some, None, refl, sym, ap, subst}
 use Rattle.seat_steps.specs.core_due.specs.{Due.{is_empty, led_to, may_enter}, Look.setting_by, Parts.{task_due, visit_due}, Ready.{IsStepPrepared, IsTreePrepared}}
 use Rattle.seat_steps.specs.core_due.specs.declared.parts.PartDue.TheVariants.{Tree}
 use Rattle.seat_steps.specs.core_due.proofs.{AtParts.{led-gate, part-places}, Owned.{gate-owned, lend-gate, lend-map, off-map}, PartsReady.is-prepared, StepsPrepared.{ending-prepared, enter_queue-prepared, expand-prepared, forward-prepared, give_back-prepared, leave_tree-prepared, look_up-prepared, put_in_leaf-prepared, read_gate-prepared, refill-prepared}}
@@ -33,6 +33,13 @@ lead-split None e = absurd (cc)
 lead-split (Some (where_is.Gate g)) e = absurd (cc)
 lead-split (Some (where_is.Split plane left right)) e = (plane, left, right, refl)
 lead-split (Some (where_is.Moved to)) e = absurd (cc)
+
+-- a part's shard is in the table of its worker
+pub lead-nowhere : {X : Type 0} (o : Option Where) → IsSome o → lead.Nowhere ≡ lead_of o → X
+lead-nowhere None some e = cc
+lead-nowhere (Some (where_is.Gate g)) some e = absurd (cc)
+lead-nowhere (Some (where_is.Split plane left right)) some e = absurd (cc)
+lead-nowhere (Some (where_is.Moved to)) some e = absurd (cc)
 
 lead-moved : (o : Option Where) → lead.Moved ≡ lead_of o → (to : ℕ) × (o ≡ Some (where_is.Moved to))
 lead-moved None e = absurd (cc)
@@ -124,7 +131,7 @@ module _ (f : Floor) (p : Player) where
       pub led-map : map ≡ map_cell s e.worker
       led-map = led.map_is e errand ∙ map-in e.worker
 
-      led-there : to ≡ lead_of (led_to s w e)
+      pub led-there : to ≡ lead_of (led_to s w e)
       led-there = subst (λ (y : ℕ). to ≡ lead_of (where_in (w.cells y) e.shard)) led-map (seen-in map (λ cell. to ≡ lead_of (where_in cell e.shard)) led.there (led.leads e errand))
 
   -- Rows behind their gates, and purses.

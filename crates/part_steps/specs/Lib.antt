@@ -1,3 +1,4 @@
+pub mod Counts
 pub mod Goings
 pub mod Heads
 pub mod Parts

@@ -1,13 +1,14 @@
 //! The step that is due for the part that an actor is at.
-ghost use Rattle.std.specs.Prelude.{ℕ, ◌≡◌, ◌++◌, [], ◌∷◌, false, true, IsSome, Some};
+ghost use Rattle.std.specs.Prelude.{ℕ, ◌≡◌, ◌≤◌, ◌+◌, ◌++◌, [], ◌∷◌, false, true, IsSome, Some};
 ghost use Rattle.seat_steps.specs.core_due.specs.Look.{setting_by};
 ghost use Rattle.seat_steps.specs.core_steps.specs.Parts.{part_may_fail, part_places};
 ghost use Rattle.seat_steps.specs.core_steps.specs.Places.{numbers};
 ghost use Rattle.seat_steps.specs.core_steps.specs.Trees.{tree_may_fail, tree_places};
 ghost use Rattle.seat_steps.specs.core_steps.specs.declared.parts.PartStep.TheVariants.{FinishPinned};
 ghost use Rattle.seat_steps.specs.Floors.{IsSeated, Stands};
+ghost use Rattle.part_steps.specs.Counts.{Costs, HasReadAlone, IsOfEverything};
 ghost use Rattle.part_steps.specs.Goings.{WentOn};
-ghost use Rattle.part_steps.specs.Parts.{MayWaitFor, HasWay, IsFor, IsLed, IsPartSure, IsVisiting, IsRouteOf, IsTreeSure, CanEndPart};
+ghost use Rattle.part_steps.specs.Parts.{MayWaitFor, HasWay, IsFor, IsLed, IsPartSure, IsUnread, IsVisiting, IsRouteOf, IsTreeSure, CanEndPart};
 ghost use Rattle.seat_steps.specs.declared.looks.Lead.TheVariants as lead;
 ghost use Rattle.part_steps.specs.declared.parts.AtGate.TheVariants as at_gate;
 ghost use Rattle.turn_table.specs.Numbered.{numbers_of};
@@ -17,11 +18,13 @@ ghost use Rattle.seat_steps.specs.volap_cell.specs.Values.{ErrandValue, actor_of
 ghost use Rattle.seat_steps.specs.volap_cell.specs.declared.errand.Way.TheVariants as way;
 ghost use Rattle.seat_steps.specs.volap_turns.specs.Rows.{AreAt};
 
+use crate::counts::{rows_at, tests_at};
 use crate::rows::{descend, enter};
+use crate::steps::Steps;
 use seat_steps::core_due::{desk_at, is_spent, last_noted, map_at};
 use seat_steps::core_steps::{PartStep, TreeStep, stock_place};
 use seat_steps::volap_cell::{Actor, Errand, Task, Way};
-use seat_steps::{Floor, Lead, Player, give_all, is_leaf_at, lead_at, make, may_enter_at, take};
+use seat_steps::{Floor, Lead, Player, is_leaf_at, lead_at, make, may_enter_at, take};
 use std::alloc::Global;
 use std::sync::Wait;
 
@@ -250,6 +253,29 @@ fn enter_or_queue<R: Wait>(
     make_tree(rt, alloc, floor, player, TreeStep::EnterQueue { map, gate })
 }
 
+/// The actor's query reads the gate, which the actor holds behind the table that leads to it.
+fn read<R: Wait>(
+    rt: &R,
+    alloc: Global,
+    floor: &Floor,
+    player: &mut Player,
+    map: u32,
+    gate: u32,
+    steps: &mut Steps,
+) -> Did
+    requires seated { IsSeated floor.now player.old }
+    requires held { player.old.seat.ranks ≡ (map, Some 1) ∷ (gate, Some 2) ∷ [] }
+    requires led { IsLed floor.now player.old map (lead.Gate gate) }
+    requires unread { IsUnread (actor_of player.old.actor) }
+    ensures went { WentOn floor.now player.old player.new }
+    ensures kept { steps.old ≤ steps.new }
+    ensures none { IsOfEverything floor.now.hierarchy (actor_of player.old.actor) → steps.new ≡ steps.old }
+{
+    let tests = tests_at(floor, player, gate);
+    steps.add(tests);
+    make_tree(rt, alloc, floor, player, TreeStep::ReadGate { map, gate })
+}
+
 /// The actor's part is at its gate, to which the held table leads.
 fn go_on_at_gate<R: Wait>(
     rt: &R,
@@ -259,6 +285,7 @@ fn go_on_at_gate<R: Wait>(
     map: u32,
     gate: u32,
     due: AtGate,
+    steps: &mut Steps,
 ) -> Did
     requires seated { IsSeated floor.now player.old }
     requires held { player.old.seat.ranks ≡ (map, Some 1) ∷ [] }
@@ -266,7 +293,10 @@ fn go_on_at_gate<R: Wait>(
     requires led { IsLed floor.now player.old map (lead.Gate gate) }
     requires due { IsFor due (actor_of player.old.actor) }
     ensures went { WentOn floor.now player.old player.new }
+    ensures kept { steps.old ≤ steps.new }
+    ensures few { IsOfEverything floor.now.hierarchy (actor_of player.old.actor) → steps.new ≤ steps.old + 1 }
 {
+    steps.add(1);
     match due {
         AtGate::LooksUp => {
             let step = PartStep::LookUp { map, gate };
@@ -277,8 +307,8 @@ fn go_on_at_gate<R: Wait>(
             enter_or_queue(rt, alloc, floor, player, map, gate)
         }
         AtGate::Reads => {
-            let step = TreeStep::ReadGate { map, gate };
-            take_for_tree(rt, alloc, floor, player, gate, 2, step)
+            take(rt, floor, player, gate, 2);
+            read(rt, alloc, floor, player, map, gate, steps)
         }
     }
 }
@@ -307,8 +337,7 @@ fn route_of(floor: &Floor, actor: &Actor) -> Route
     }
 }
 
-/// The actor's part, which has not passed its gate, goes on to where the held table leads. Where that leads nowhere,
-/// nothing is done.
+/// The actor's part, which has not passed its gate, goes on to where the held table leads.
 fn follow<R: Wait>(
     rt: &R,
     alloc: Global,
@@ -317,6 +346,7 @@ fn follow<R: Wait>(
     route: Route,
     to: Lead,
     due: AtGate,
+    steps: &mut Steps,
 ) -> Did
     requires seated { IsSeated floor.now player.old }
     requires held { player.old.seat.ranks ≡ (route.map, Some 1) ∷ [] }
@@ -324,10 +354,12 @@ fn follow<R: Wait>(
     requires led { IsLed floor.now player.old route.map to }
     requires due { IsFor due (actor_of player.old.actor) }
     ensures went { WentOn floor.now player.old player.new }
+    ensures kept { steps.old ≤ steps.new }
+    ensures few { IsOfEverything floor.now.hierarchy (actor_of player.old.actor) → steps.new ≤ steps.old + 1 }
 {
     let Route { map, desk, .. } = route;
     match to {
-        Lead::Gate(gate) => go_on_at_gate(rt, alloc, floor, player, map, gate, due),
+        Lead::Gate(gate) => go_on_at_gate(rt, alloc, floor, player, map, gate, due, steps),
         Lead::Split => {
             let step = PartStep::Expand { map, desk };
             take_for_part(rt, alloc, floor, player, desk, 4, step)
@@ -336,10 +368,7 @@ fn follow<R: Wait>(
             let step = PartStep::Forward { map, desk };
             take_for_part(rt, alloc, floor, player, desk, 4, step)
         }
-        Lead::Nowhere => {
-            give_all(floor, player);
-            Did::Step
-        }
+        Lead::Nowhere => unreachable!(),
     }
 }
 
@@ -350,15 +379,19 @@ fn go_by_table<R: Wait>(
     floor: &Floor,
     player: &mut Player,
     due: AtGate,
+    steps: &mut Steps,
 ) -> Did
     requires stands { Stands floor.now player.old }
     requires due { IsFor due (actor_of player.old.actor) }
     ensures went { WentOn floor.now player.old player.new }
+    ensures kept { steps.old ≤ steps.new }
+    ensures few { IsOfEverything floor.now.hierarchy (actor_of player.old.actor) → steps.new ≤ steps.old + 2 }
 {
     let route = route_of(floor, &player.actor);
     take(rt, floor, player, route.map, 1);
+    steps.add(1);
     let to = lead_at(floor, player, route.map, route.shard);
-    follow(rt, alloc, floor, player, route, to, due)
+    follow(rt, alloc, floor, player, route, to, due, steps)
 }
 
 /// The actor's row, which is carried at the block, is put in it where that is a leaf, and else goes further down.
@@ -415,11 +448,13 @@ fn go_on_before<R: Wait>(
     requires before { HasWay (actor_of player.old.actor) (way.Before height filled) }
     ensures went { WentOn floor.now player.old player.new }
 {
+    // A row's steps are not counted.
+    let mut steps = Steps::new();
     if height.is_none() {
-        return go_by_table(rt, alloc, floor, player, AtGate::LooksUp);
+        return go_by_table(rt, alloc, floor, player, AtGate::LooksUp, &mut steps);
     }
     if filled {
-        return go_by_table(rt, alloc, floor, player, AtGate::Enters);
+        return go_by_table(rt, alloc, floor, player, AtGate::Enters, &mut steps);
     }
     take_for_tree(rt, alloc, floor, player, stock_place(), 7, TreeStep::Refill)
 }
@@ -447,6 +482,43 @@ fn go_on_with_row<R: Wait>(
     }
 }
 
+/// How many gates are taken for the end of the actor's part: the one at which it is pinned, if it is.
+fn end_cost(actor: &Actor) -> u64
+    ensures alone { HasReadAlone (actor_of actor.now) → result ≡ 0 }
+{
+    match pin_of(actor) {
+        Some(_) => 1,
+        None => 0,
+    }
+}
+
+/// The actor's query visits the block that the actor holds, and which it noted last.
+fn visit<R: Wait>(
+    rt: &R,
+    alloc: Global,
+    floor: &Floor,
+    player: &mut Player,
+    block: u32,
+    steps: &mut Steps,
+) -> Did
+    requires seated { IsSeated floor.now player.old }
+    requires held { player.old.seat.ranks ≡ (block, Some 3) ∷ [] }
+    requires reading { IsVisiting (actor_of player.old.actor) (Some block) }
+    ensures went { WentOn floor.now player.old player.new }
+    ensures kept { steps.old ≤ steps.new }
+{
+    let tests = rows_at(floor, player, block);
+    steps.add(tests);
+    let end = end_cost(&player.actor);
+    match make_tree(rt, alloc, floor, player, TreeStep::VisitBlock { block }) {
+        Did::Step => Did::Visit,
+        ended => {
+            steps.add(end);
+            ended
+        }
+    }
+}
+
 /// The actor's query, which has read its gate, visits the block that it noted last, or ends its part.
 fn go_on_with_query<R: Wait>(
     rt: &R,
@@ -454,28 +526,37 @@ fn go_on_with_query<R: Wait>(
     floor: &Floor,
     player: &mut Player,
     noted: Option<u32>,
+    steps: &mut Steps,
 ) -> Did
     requires stands { Stands floor.now player.old }
     requires reading { IsVisiting (actor_of player.old.actor) noted }
     ensures went { WentOn floor.now player.old player.new }
+    ensures kept { steps.old ≤ steps.new }
+    ensures none { HasReadAlone (actor_of player.old.actor) → steps.new ≡ steps.old }
 {
     let Some(block) = noted else {
+        steps.add(end_cost(&player.actor));
         end_part(rt, alloc, floor, player);
         return Did::End;
     };
-    let step = TreeStep::VisitBlock { block };
-    match take_for_tree(rt, alloc, floor, player, block, 3, step) {
-        Did::Step => Did::Visit,
-        ended => ended,
-    }
+    take(rt, floor, player, block, 3);
+    steps.add(1);
+    visit(rt, alloc, floor, player, block, steps)
 }
 
 /// The actor goes on with its part by one step, for which it waits for the turns of the cells. Where it finds no
-/// memory, its part ends so. Where nothing is due for the part, nothing is done.
-pub fn go_on_at_part<R: Wait>(rt: &R, alloc: Global, floor: &Floor, player: &mut Player) -> Did
+/// memory, its part ends so. The steps of a query are counted.
+pub fn go_on_at_part<R: Wait>(
+    rt: &R,
+    alloc: Global,
+    floor: &Floor,
+    player: &mut Player,
+    steps: &mut Steps,
+) -> Did
     requires stands { Stands floor.now player.old }
     requires part { IsSome (actor_of player.old.actor).errand }
     ensures went { WentOn floor.now player.old player.new }
+    ensures costs { Costs floor.now.hierarchy (actor_of player.old.actor) steps.old steps.new }
 {
     let Some(errand) = &player.actor.errand else {
         unreachable!()
@@ -485,10 +566,10 @@ pub fn go_on_at_part<R: Wait>(rt: &R, alloc: Global, floor: &Floor, player: &mut
             let way = going.way;
             go_on_with_row(rt, alloc, floor, player, way)
         }
-        Task::Unread(_) => go_by_table(rt, alloc, floor, player, AtGate::Reads),
+        Task::Unread(_) => go_by_table(rt, alloc, floor, player, AtGate::Reads, steps),
         Task::Read(reading) => {
             let noted = last_noted(&reading.todo);
-            go_on_with_query(rt, alloc, floor, player, noted)
+            go_on_with_query(rt, alloc, floor, player, noted, steps)
         }
     }
 }

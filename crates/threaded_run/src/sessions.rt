@@ -4,7 +4,7 @@ ghost use Rattle.script_form.specs.declared.script.Command.TheVariants as is_com
 ghost use Rattle.session_runs.specs.Sessions.{BeginsNothing, DoesInTurn};
 ghost use Rattle.threaded_run.specs.Streams.{AllFit, DoesAll, DoesSome, FitsFloor, IsOfServer};
 
-use hall_hands::actor_run::Session;
+use hall_hands::actor_run::{Session, Steps};
 use script_form::{Command, NewRow, Question};
 use std::alloc::{AllocError, Global};
 use std::sync::Wait;
@@ -90,6 +90,7 @@ fn query<'a, R: Wait + Sync, M: Meet>(
         (is_command.Query question.now ∷ []) session.old.seen session.new.seen) }
     ensures none { OnErr result (BeginsNothing question.now.server session.old.seen session.new.seen) }
 {
-    session.try_query(rt, alloc, &question.filter, meet)?;
+    let mut steps = Steps::new();
+    session.try_query(rt, alloc, &question.filter, meet, &mut steps)?;
     Ok(())
 }

@@ -1,4 +1,4 @@
-use Rattle.std.proofs.Common.{sym, ◌∙◌}
+use Rattle.std.proofs.Common.{sym, ◌∙◌, arith}
 use Rattle.actor_run.proofs.Opened.{command-on, ends-since, has-open, no-part, part-on, some-part}
 use Rattle.actor_run.proofs.driving.go_on.Goals as goal
 
@@ -16,16 +16,17 @@ go_on_with_command-requires-clause-open g c =
     has-open c.args.floor.now c.requires.command.0 c.args.player.now c.requires.command.1 (no-part c.args.player.now (sym c.is_some.ensures ∙ c.if-is_some.false))
 
 pub returns-then-is_some : goal.returns-then-is_some
-returns-then-is_some g c = record { goes = λ start is_open. part-on c.args.floor.now start c.args.player.now is_open c.go_on_at_part.new.player c.go_on_at_part.ensures.went }
+returns-then-is_some g c = record { goes = λ start is_open. part-on c.args.floor.now start c.args.player.now is_open c.go_on_at_part.new.player c.go_on_at_part.ensures.went; kept = c.go_on_at_part.ensures.costs.kept }
 
 pub returns-in-GoesOn : goal.returns-in-GoesOn
-returns-in-GoesOn g c = record { goes = λ start is_open. command-on c.args.floor.now start c.args.player.now is_open c.go_on_with_command.new.player c.in-GoesOn.ensures.comes }
+returns-in-GoesOn g c = record { goes = λ start is_open. command-on c.args.floor.now start c.args.player.now is_open c.go_on_with_command.new.player c.in-GoesOn.ensures.comes; kept = omega arith }
 
 pub returns-in-Waits : goal.returns-in-Waits
-returns-in-Waits g c = record { goes = λ start is_open. command-on c.args.floor.now start c.args.player.now is_open c.go_on_with_command.new.player c.in-Waits.ensures.comes }
+returns-in-Waits g c = record { goes = λ start is_open. command-on c.args.floor.now start c.args.player.now is_open c.go_on_with_command.new.player c.in-Waits.ensures.comes; kept = omega arith }
 
 pub returns-in-Ended : goal.returns-in-Ended
 returns-in-Ended g c = record {
   goes = λ start is_open.
       ends-since c.args.floor.now start c.args.player.now is_open c.go_on_with_command.new.player c.in-Ended.end (no-part c.args.player.now (sym c.is_some.ensures ∙ c.if-is_some.false)) c.in-Ended.ensures.comes;
+  kept = omega arith;
 }

@@ -13,5 +13,5 @@ returns g c =
     let before = c.insert_in_turn-acked.ensures in
     record {
       same = on-from c.args.session.now c.insert_in_turn-acked.new.session c.query-answer.new.self before.same does.goes.same;
-      told = told-own c.args.places.now.asked.now c.insert_in_turn-acked.new.session c.query-answer.new.self c.insert_in_turn-acked.result c.query-answer.result before.own does;
+      told = told-own c.args.places.now.asked.now c.insert_in_turn-acked.new.session c.query-answer.new.self c.insert_in_turn-acked.result c.query-answer.result c.count.result before.own does;
     }

@@ -1,7 +1,7 @@
 use Rattle.std.proofs.Common.{ℕ, List, [], ◌∷◌, ◌++◌, Option, refl, sym, ap, subst, arith}
 use Rattle.seat_steps.specs.core_steps.specs.declared.parts.PartStep.TheVariants.{Expand, Forward}
 use Rattle.part_steps.specs.Parts.{IsLed}
-use Rattle.part_steps.proofs.{PartsLed.gate-turn, PartsMade.{part-second, went-nowhere}, PartsSure.{expand-sure, for-ends, for-out, forward-sure}}
+use Rattle.part_steps.proofs.{PartsLed.{gate-turn, led-somewhere}, PartsMade.part-second, PartsSure.{expand-sure, for-ends, for-out, forward-sure}}
 use Rattle.part_steps.proofs.parts.follow.Goals as goal
 use Rattle.turn_table.specs.Numbered.{numbers_of}
 use Rattle.seat_steps.specs.volap_cell.specs.Values.{actor_of}
@@ -61,5 +61,9 @@ take_for_part-requires-in-Moved-clause-last g c = ap (λ (l : List (ℕ × Optio
 pub take_for_part-requires-in-Moved-clause-ends : goal.take_for_part-requires-in-Moved-clause-ends
 take_for_part-requires-in-Moved-clause-ends g c = for-ends c.args.due c.requires.due
 
-pub returns-in-Nowhere : goal.returns-in-Nowhere
-returns-in-Nowhere g c = record { went = went-nowhere c.args.floor.now c.args.player.now c.give_all.new.player c.give_all.ensures.stands c.give_all.ensures.gave }
+pub unreachable-requires : goal.unreachable-requires
+unreachable-requires g c =
+    let f = c.args.floor.now in
+    let p = c.args.player.now in
+    let ends = for-ends c.args.due c.requires.due in
+    led-somewhere f p c.requires.seated c.args.route.map ends.e ends.errand (subst (IsLed f p c.args.route.map) c.in-Nowhere.is c.requires.led)

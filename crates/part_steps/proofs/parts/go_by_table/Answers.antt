@@ -1,5 +1,5 @@
-use Rattle.std.proofs.Common.{◌≡◌, ◌∙◌, ℕ, List, [], ◌∷◌, ◌++◌, Option, Some, IsSome, refl, sym, ap, subst}
-use Rattle.part_steps.specs.{Goings.WentOn, Parts.{IsFor, IsLed, IsRouteOf}}
+use Rattle.std.proofs.Common.{◌≡◌, ◌∙◌, ℕ, List, [], ◌∷◌, ◌++◌, Option, Some, IsSome, refl, sym, ap, subst, arith}
+use Rattle.part_steps.specs.{Counts.IsOfEverything, Goings.WentOn, Parts.{IsFor, IsLed, IsRouteOf}}
 use Rattle.seat_steps.specs.{Floors.IsSeated, declared.floor.Player.Player}
 use Rattle.part_steps.proofs.{PartsLed.{led-seen, table-turn}, PartsMade.went-taken, PartsSure.{end-bare, for-ends}}
 use Rattle.seat_steps.proofs.Around.{took-there}
@@ -65,4 +65,12 @@ pub returns : goal.returns
 returns g c =
     let p = c.args.player.now in
     let went = subst (λ (x : Player). WentOn c.args.floor.now x c.follow.new.player) c.lead_at-to.ensures.same c.follow.ensures.went in
-    record { went = went-taken c.args.floor.now p c.take.new.player c.follow.new.player c.take.ensures.took.same went }
+    record {
+      went = went-taken c.args.floor.now p c.take.new.player c.follow.new.player c.take.ensures.took.same went;
+      kept = (let one = c.add.ensures.kept in let more = c.follow.ensures.kept in omega (arith, one, more));
+      few = λ of_all.
+          let same = sym (ap (λ (x : Player). x.actor) c.lead_at-to.ensures.same ∙ c.take.ensures.took.same.actor) in
+          let more = c.follow.ensures.few (subst (λ (x : Actor). IsOfEverything c.args.floor.now.hierarchy (actor_of x)) same of_all) in
+          let one = c.add.ensures.few in
+          omega (arith, one, more);
+    }

@@ -31,4 +31,5 @@ returns g c =
     let did = does i.server c.self.invariant.session in
     record {
       does = subst (λ (v : SessionValue). DoesTryQuery c.query.result c.args.filter.now v (session_of i.hall.now i.server c.query.new.player)) c.self.view_is (record { goes = did.goes; tries = did.ends });
+      kept = c.query.ensures.kept;
     }

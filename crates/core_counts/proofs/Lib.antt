@@ -1,0 +1,4 @@
+pub mod Above
+pub mod AtFirst
+pub mod LastMoves
+pub mod Grows

@@ -1,0 +1,13 @@
+//! Laws of how often parts may still go on. There is nothing to do at run time.
+
+ghost use Rattle.core_counts.specs.Ahead.{AtFirstLaw, GrowsLaw};
+
+/// The parts of a query that begins may go on or end no more often than there are shards, splits and moves for.
+pub fn parts_are_few_at_first()
+    ensures { AtFirstLaw }
+{}
+
+/// With an event the parts that stand may go on more often by no more than such a bound grows.
+pub fn an_event_adds_few()
+    ensures { GrowsLaw }
+{}
