@@ -122,7 +122,7 @@ fn run<R: Abort + Threads + Wait + Sync>(
     Ok((hall.close(passes), answer))
 }
 
-// The session doesn't look for a part of its query before the hand has done one: so the answer is of what the hand has counted.
+// The session does not look for a part of its query before the hand has done one: so the answer is of what the hand has counted.
 #[test]
 fn a_hand_does_the_part_of_a_query(rt: HostRuntime) -> Result<(), Fail> {
     let meet = ByHand::new();

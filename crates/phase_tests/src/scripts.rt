@@ -17,7 +17,7 @@ pub(crate) const ROWS: u64 = 60;
 /// How many queries a round has.
 pub(crate) const QUERIES: u64 = 9;
 
-/// Each so many rounds one is closed by a settle.
+/// One of so many rounds in a row is closed by a settle.
 pub(crate) const CLOSINGS: u64 = 5;
 
 /// Two servers, and two workers with two hands each; a concept for each round with two places.
