@@ -2,7 +2,7 @@
 use Rattle.std.proofs.Common.{◌≡◌, ◌∙◌, ◌<◌, List, [], Option, Some, ap, reverse, subst, sym}
 use Rattle.std.proofs.lemmas.List.{reverse-reverse}
 use Rattle.actor_run.proofs.Gathered.{begun-none, everyone-in, here-are, here-view, ledger-in, right-then, turned-are}
-use Rattle.actor_run.specs.{Passes.{AreAllIn, ArePasses, IsAbout, IsPassesOf, PassesValue, in_seat, missing, passes_of}, Wholes.{HaveGoneOn, HaveRested}}
+use Rattle.actor_run.specs.{Passes.{AreAllIn, ArePasses, IsAbout, IsPassesOf, PassesValue, in_seat, missing, passes_of}, Wholes.{HaveRested}}
 use Rattle.atomic_table.specs.Seated.{TableId}
 use Rattle.row_ledger.specs.{Right.IsRight, Site.Site, declared.event.Event.Event}
 use Rattle.turn_table.specs.Seat.{SeatValue, cell_count}
@@ -12,17 +12,6 @@ use Rattle.whole_steps.specs.volap_cell.specs.{Setting.ledger_cell, Values.actor
 
 abbrev S : Type 0
 S = SeatValue Cell Actor Event
-
--- who has rested has gone on
-pub rested-on : {f : Floor} {was now : PassesValue} → HaveRested f was now → HaveGoneOn f was now
-rested-on rested = record {
-  own = rested.own;
-  all = rested.all;
-  same = rested.same;
-  later = rested.later;
-  right = rested.right;
-  others = λ k other. rested.none k;
-}
 
 -- what was seen then, the oldest first, is lent
 rested-lent : {f : Floor} {was now : PassesValue} → HaveRested f was now → HaveRested f was (record was { seen = reverse (reverse now.seen) })
