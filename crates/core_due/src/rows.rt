@@ -97,7 +97,7 @@ fn down_by(cells: &[Option<Cell>], purse: &Purse, parent: u32, place: u8, entry:
 }
 
 /// The step down by the entry of the parent that comes first for the row.
-#[tactic(auto, unfolding(core_steps::link_descent::specs::Pick::pick_place))]
+#[tactic(auto, unfolding(core_steps::specs::link_descent::specs::Pick::pick_place))]
 fn down_from(
     h: &Hierarchy,
     cells: &[Option<Cell>],
@@ -120,7 +120,7 @@ fn down_from(
 }
 
 /// The step of the actor's row down from the block, if it has one.
-#[tactic(auto, unfolding(core_steps::link_descent::specs::Pick::pick_place))]
+#[tactic(auto, unfolding(core_steps::specs::link_descent::specs::Pick::pick_place))]
 fn down_at(
     h: &Hierarchy,
     cells: &[Option<Cell>],

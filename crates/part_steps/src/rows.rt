@@ -25,7 +25,7 @@ use std::alloc::Global;
 use std::sync::Wait;
 
 /// The place of the entry of a directory that comes first for a row, and the group to which it leads.
-#[tactic(auto, unfolding(seat_steps::link_descent::specs::Pick::pick_place))]
+#[tactic(auto, unfolding(seat_steps::specs::link_descent::specs::Pick::pick_place))]
 fn pick_for(h: &Hierarchy, row: &Row, block: &Block) -> (u8, Group)
     requires body { IsBodyOf h.now block.now.body }
     requires some { 0 < length (entries_in block.now.body) }

@@ -34,7 +34,7 @@ fn root_in(cells: &[Option<Cell>], gate: u32) -> u32
 }
 
 /// The child that comes first for a row.
-#[tactic(auto, unfolding(core_pages::link_descent::specs::Pick::pick_place))]
+#[tactic(auto, unfolding(core_pages::specs::link_descent::specs::Pick::pick_place))]
 fn child_of(h: &Hierarchy, block: &Block, row: &Row) -> Option<u32>
     requires body { IsBodyOf h.now block.now.body }
     requires row { IsRowOf h.now row.now }
