@@ -109,7 +109,7 @@ impl Judge {
             Event::Asked { server, filter, .. } => must(&self.known, before, *server, filter),
             _ => 0,
         };
-        self.must.push(rows)
+        Ok(self.must.push(rows)?)
     }
 
     /// Compares an answer with what it must and may count.

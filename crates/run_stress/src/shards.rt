@@ -75,11 +75,13 @@ impl Places {
 
     /// A shard stands on a worker.
     fn put(&mut self, shard: u32, worker: u8) -> Result<(), AllocError> {
-        self.all.push(Place {
-            shard,
-            worker,
-            is_there: true,
-        })
+        Ok(
+            self.all.push(Place {
+                shard,
+                worker,
+                is_there: true,
+            })?,
+        )
     }
 
     /// A shard was split, if it stood and neither half did. Whether it is so.
