@@ -45,7 +45,7 @@ impl Places {
         for shard in 0..workers {
             all.push(Place {
                 shard,
-                worker: shard as u8,
+                worker: u8::try_from(shard).unwrap_or(0),
                 is_there: true,
             })?;
         }
