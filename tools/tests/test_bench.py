@@ -110,6 +110,38 @@ class Bench(unittest.TestCase):
         self.assertEqual(told.status, 1)
         self.assertRegex(told.err, "^hall: .* 1 tells of other than 30 inserts\n$")
 
+    def test_runs_with_threads_are_timed_beside_those_in_order(self):
+        said = '#!/bin/sh\nif [ "$1" != "$FAST" ]; then sleep 0.3; fi\n%s\n'
+        put(self.folder, {
+            "program": said % "wc -l", "lines": said % 'if [ "$1" = run ]; then echo; fi; wc -l',
+            "other": said % 'if [ "$1" = run ]; then echo 1; else echo 2; fi', "wrong": "#!/bin/sh\nexit 3\n"})
+
+        def told(name, fast=""):
+            path = os.path.join(self.folder, name)
+            os.chmod(path, 0o755)
+            return ran_command([sys.executable, os.path.join(BENCH, "threads.py"), path, "--quick"], BENCH, env={"FAST": fast})
+
+        ran = told("program", "run")
+        self.assertEqual((ran.status, ran.err), (0, ""))
+        heads = ["inserts by 4 servers", "queries beside inserts", "queries alone", "load --rows 20000 --seed 1"]
+        lines = ran.out.split("\n")
+        self.assertEqual([line.split(" | ")[0] for line in lines[2:]], ["| " + it for it in heads] + [""])
+        # The program of the last is told the same word twice.
+        self.assertEqual([line.endswith("<- more than asked") for line in lines[2:6]], [False, False, False, True])
+        self.assertIn("inserts by 4 servers: the texts are not alike", told("lines").err)
+        self.assertIn("queries alone: the texts are not alike", told("other", "run").err)
+        self.assertIn("step ended with status 3", told("wrong").err)
+
+    def test_scripts_with_threads_have_no_bad_record(self):
+        sys.path.insert(0, BENCH)
+        self.addCleanup(sys.path.remove, BENCH)
+        import threads
+        for kind in threads.kinds(1000):
+            if kind.script:
+                told = ran_command(
+                    [sys.executable, os.path.join(ROOT, "tools", "why"), "-"], BENCH, "".join(it + "\n" for it in kind.script))
+                self.assertEqual((kind.head, told.status, told.err), (kind.head, 0, ""))
+
     def test_scripts_of_growth_have_no_bad_record(self):
         sys.path.insert(0, BENCH)
         self.addCleanup(sys.path.remove, BENCH)

@@ -9,6 +9,7 @@ from helper import ROOT, put, ran_command
 PROGRAM = """#!/bin/sh
 cat
 if [ "$1" = step ] && [ "$2" = --seed ] && [ "$3" -gt 4 ]; then echo 2 query 1 5 5 5; echo 3 tree more; fi
+if [ "$1" = run ]; then echo 2 query 0 0 - -; fi
 if [ "$1" = step ] && [ "$2" = --seed ] && [ "$3" -gt 8 ]; then echo volap: BadScript >&2; exit 3; fi
 """
 
@@ -34,6 +35,18 @@ a.csv: 6 runs, 2 different texts
   3 tree  | -             | more
 
 """)
+
+    def test_runs_with_threads(self):
+        told = self.tried("a.csv", "--seeds", "4-6", "--runs", "3")
+        self.assertEqual((told.status, told.err), (0, ""))
+        self.assertEqual(told.out, """\
+a.csv: 7 runs, 3 different texts
+          | in order, 4 | 5-6     | run 1-3
+  2 query | -           | 1 5 5 5 | 0 0 - -
+  3 tree  | -           | more    | =
+
+""")
+        self.assertIn("x is no number of runs", self.tried("a.csv", "--runs", "x").err)
 
     def test_runs_that_are_all_the_same(self):
         told = self.tried("a.csv", "--seeds=0-2")

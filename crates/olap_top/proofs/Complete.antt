@@ -1,9 +1,9 @@
 -- A good script on which no fault rises is run to its end, unless memory runs out.
-use Rattle.std.proofs.{Common.{◌≡◌, ◌∙◌, ◌+◌, ◌^◌, ◌⊎◌, inl, inr, ℕ, List, ◌++◌, length, append-nil, refl, sym, ap, arith}, lemmas.List.length-append}
+use Rattle.std.proofs.{Common.{◌≡◌, ◌∙◌, ◌+◌, ◌^◌, ◌⊎◌, inl, inr, ℕ, Bool, List, ◌++◌, length, append-nil, refl, sym, ap, arith}, lemmas.List.length-append}
 use Rattle.std.specs.Prelude.{Option, Some, None, Err}
 use Rattle.script_form.specs.{Scripts.{records_of, script}, declared.script.Cause.Cause, declared.script.ScriptFault.TheVariants.Bad}
 use Rattle.volap_io.specs.Causes.{Gave}
-use Rattle.olap_top.specs.{Outcomes.{HasGoodScript, IsGoodScript, IsNoScript, IsReadWhole}, declared.outcome.Status.Status, declared.wanted.Wanted.Wanted, declared.wanted.Wanted.TheVariants.{Step, Seeded, Load}}
+use Rattle.olap_top.specs.{Outcomes.{HasGoodScript, IsGoodScript, IsNoScript, IsReadWhole}, declared.outcome.Status.Status, declared.wanted.Wanted.Wanted, declared.wanted.Wanted.TheVariants.{Step, Seeded, Run, Load}}
 use Rattle.olap_top.specs.declared.outcome.Status.TheVariants as status_is
 
 -- a source that tells few bytes gives no more
@@ -47,13 +47,15 @@ pub complete : (wanted : Wanted) (status : Status) (left now taken_before taken_
     → (status ≡ status_is.ReadFault → ⊥) → (status ≡ status_is.BadWords → ⊥) → (status ≡ status_is.WriteFault → ⊥)
     → (status ≡ status_is.BadScript → IsNoScript left now taken_before taken_now faults_before faults_now)
     → (status ≡ status_is.TooLarge → Gave left now (λ count. count ≡ 2 ^ 26 + 1))
-    → ((rows seed : ℕ) → wanted ≡ Load rows seed → (status ≡ status_is.Done) ⊎ (status ≡ status_is.WriteFault) ⊎ (status ≡ status_is.NoMemory))
+    → ((rows seed : ℕ) (threads : Bool) → wanted ≡ Load rows seed threads → (status ≡ status_is.Done) ⊎ (status ≡ status_is.WriteFault) ⊎ (status ≡ status_is.NoMemory))
     → (status ≡ status_is.Done) ⊎ (status ≡ status_is.NoMemory)
 complete Step status left now taken_before taken_now faults_before faults_now good no_read no_words no_write bad large load =
     of-good status left now taken_before taken_now faults_before faults_now good no_read no_words no_write bad large
 complete (Seeded seed) status left now taken_before taken_now faults_before faults_now good no_read no_words no_write bad large load =
     of-good status left now taken_before taken_now faults_before faults_now good no_read no_words no_write bad large
-complete (Load rows seed) status left now taken_before taken_now faults_before faults_now good no_read no_words no_write bad large load = elim (load rows seed refl) [
+complete Run status left now taken_before taken_now faults_before faults_now good no_read no_words no_write bad large load =
+    of-good status left now taken_before taken_now faults_before faults_now good no_read no_words no_write bad large
+complete (Load rows seed threads) status left now taken_before taken_now faults_before faults_now good no_read no_words no_write bad large load = elim (load rows seed threads refl) [
   | inl done ↦ inl done
   | inr (inl fault) ↦ absurd (no_write fault)
   | inr (inr shortage) ↦ inr shortage

@@ -8,6 +8,10 @@ pub on_err : {T E : Type 0} (r : Result T E) (P : Type 0) → P → OnErr r P
 on_err (Ok x) P p = tt
 on_err (Err e) P p = p
 
+pub on_ok : {T E : Type 0} (r : Result T E) (P : Type 0) → P → OnOk r P
+on_ok (Ok x) P p = p
+on_ok (Err e) P p = tt
+
 pub if_ok-more : {T E : Type 0} (r : Result T E) (P Q : T → Type 0) (A : Type 0) → ((x : T) → P x → A → Q x) → IfOk r P → OnOk r A → IfOk r Q
 if_ok-more (Ok x) P Q A f p a = f x p a
 if_ok-more (Err e) P Q A f p a = tt

@@ -1,5 +1,5 @@
 -- What is told of commands that are over stays as the history goes on.
-use Rattle.std.proofs.{Common.{◌≡◌, ◌∙◌, ◌+◌, ◌<◌, ℕ, Bool, true, false, List, [], ◌∷◌, ◌++◌, length, map, refl, sym, ap, arith, IsTrue, append-nil, append_assoc, ◌==◌}, lemmas.Bool.{and_parts, false≢true, ne_eqb}}
+use Rattle.std.proofs.{Common.{◌≡◌, ◌∙◌, ◌+◌, ◌<◌, ℕ, Bool, true, false, List, [], ◌∷◌, ◌++◌, length, map, refl, sym, ap, subst, arith, IsTrue, append-nil, append_assoc, ◌==◌}, lemmas.Bool.{and_parts, false≢true, ne_eqb}}
 use Rattle.std.specs.{List.{AllByRecursion, AllZip}, Option.{option_map_or, option_or}, Prelude.{Option, Some, None, is_some, ◌||◌, find, option_and_then, if◌then◌else◌}}
 use Rattle.dim_hierarchy.specs.Dimension.{Dimension}
 use Rattle.answer_text.proofs.TextFacts.{IsSameAt, lines-kept}
@@ -175,3 +175,15 @@ lines-grown site usable with h done newer history each through =
     ap (λ ps. lines 1 done ps (newer ++ history)) (places_behind-kept with [] done history (newer ++ history) (goes-on newer history) begun ∙ at.are)
     ∙ lines-kept 1 done at.begins history (newer ++ history) (same-all site usable newer history at.begins each at.over)
     ∙ ap (λ ps. lines 1 done ps history) (sym at.are)
+
+-- and they are over still
+all-over : (newer history : List Event) (begins : List ℕ) → AllByRecursion (IsOverAt history) begins → IsTrue (are_over (newer ++ history) (map Some begins))
+all-over newer history [] over = refl
+all-over newer history (p ∷ ps) over = rw ((over-grown newer history p over.0).over) (all-over newer history ps over.1)
+
+pub over-kept : (with : Use) (h : List Dimension) (done : List Command) (newer history : List Event) → IsThrough with h done history → IsTrue (are_over (newer ++ history) (places with done (newer ++ history)))
+over-kept with h done newer history through =
+    let run = through-law with h done history through in
+    let at = done-at with h history done (places with done history) run.part.begun run.over in
+    let begun : HaveBegun with done history = record { counts = λ session. omega (arith, through.counts session) } in
+    subst (λ ps. IsTrue (are_over (newer ++ history) ps)) (sym (places_behind-kept with [] done history (newer ++ history) (goes-on newer history) begun ∙ at.are)) (all-over newer history at.begins at.over)

@@ -4,11 +4,14 @@ pub mod Ends
 pub mod Grown
 pub mod Handing
 pub mod Asked
-pub mod PhaseTurns
 pub mod Kept
 pub mod InsertsEnd
 pub mod PhaseSteps
+pub mod Telling
+pub mod OneThread
+pub mod Hall
 pub mod Summaries
+pub mod Ended
 pub mod Settled
 pub mod Behind
 pub mod Leaving

@@ -16,9 +16,9 @@ pub wrote-all : (wanted : Wanted) (s : Script) (taken_before taken_now : Option 
 wrote-all wanted s taken_before taken_now history telling same tells took =
     subst (Appends taken_before taken_now) (sym (asked-told wanted s history tells)) (subst (λ b. Appends taken_before taken_now (if b then told s.with s.commands history else [])) (same ∙ tells) took)
 
-pub wrote-none : (rows seed : ℕ) (s : Script) (taken_before taken_now : Option (List ℕ)) (history : List Event) (telling : Bool) → telling ≡ tells_phases (Load rows seed)
+pub wrote-none : (rows seed : ℕ) (threads : Bool) (s : Script) (taken_before taken_now : Option (List ℕ)) (history : List Event) (telling : Bool) → telling ≡ tells_phases (Load rows seed threads)
     → Appends taken_before taken_now (if telling then told s.with s.commands history else []) → Appends taken_before taken_now []
-wrote-none rows seed s taken_before taken_now history telling same took =
+wrote-none rows seed threads s taken_before taken_now history telling same took =
     subst (λ b. Appends taken_before taken_now (if b then told s.with s.commands history else [])) same took
 
 -- The sink failed in the summary behind that.
@@ -34,9 +34,9 @@ all-phases : (cs : List Command) (k : ℕ) → length (phases cs) ≤ k → phas
 all-phases cs k all = ap all_of (take_all k (phases cs) all) ∙ all_of-phases cs
 
 -- A run to the end of which no summary was written.
-pub ran-all : (rows seed : ℕ) (s : Script) (taken_before taken_now : Option (List ℕ)) (history : List Event) → HasRun s.with s.hierarchy s.commands history → Appends taken_before taken_now []
-    → RanInto (Load rows seed) s taken_before taken_now history
-ran-all rows seed s taken_before taken_now history ran took = record {
+pub ran-all : (rows seed : ℕ) (threads : Bool) (s : Script) (taken_before taken_now : Option (List ℕ)) (history : List Event) → HasRun s.with s.hierarchy s.commands history → Appends taken_before taken_now []
+    → RanInto (Load rows seed threads) s taken_before taken_now history
+ran-all rows seed threads s taken_before taken_now history ran took = record {
   phase = length (phases s.commands);
   right = ran.right;
   run = record {

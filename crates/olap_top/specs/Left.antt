@@ -18,16 +18,16 @@ pub record IsHandedOut (h : List Dimension) (with : Use) (state : State) (o : Ou
   pub freed : get_or rest.cells.items ledger_cell None ≡ Some cell.Free
   pub same : with_ledger o.ledger (held h with rest) ≡ held h with state
 
--- What a run of this script leaves, whatever its answer: the state to which its one run led from the opening, in which each row has its
--- place, and unless memory ran out each cell its one use, by a shard that stands or as a free one; and a history that tells of queries
--- that are settled, and of settles, what it is to.
+-- What a run of this script leaves, whatever its answer: the state to which it led from the opening, in which each row has its place,
+-- and unless memory ran out each cell its one use, by a shard that stands or as a free one; and a history that tells of queries that are
+-- settled, and of settles, what it is to.
 pub record LeavesRun (wanted : Wanted) (s : Script) (o : Outcome) : Type 0 where
   pub some : 0 < length o.ledger.history
   pub rest : State
   pub left : o.rest ≡ Some rest
   pub is_rest : IsRestOf wanted s o.status o.ledger rest
-  pub rows : AreRowsKept (setting_of s) (with_ledger o.ledger (held s.hierarchy s.with rest))
-  pub cells : o.status ≢ NoMemory → AreAllUsed (setting_of s) (with_ledger o.ledger (held s.hierarchy s.with rest))
+  pub rows : AreRowsKept (setting_of wanted s) (with_ledger o.ledger (held s.hierarchy s.with rest))
+  pub cells : o.status ≢ NoMemory → AreAllUsed (setting_of wanted s) (with_ledger o.ledger (held s.hierarchy s.with rest))
   pub settling : IsSettling (site_of s.with s.hierarchy) o.ledger.history
   pub serial : goes_in_order wanted ≡ true → RunsInOrder s o.ledger.history
 

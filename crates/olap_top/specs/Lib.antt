@@ -6,8 +6,14 @@ pub mod OneRun
 pub mod RowsKept
 pub mod Settles
 pub mod RunSoFar
+pub mod Engines
+pub mod Alone
+pub mod Threads
+pub mod Tells
+pub mod Standing
 pub mod Left
 -- What stands below is passed on.
 pub use Rattle.core_laws.specs.volap_cell
 pub use Rattle.seeded_run.specs.script_roles
 pub use Rattle.seeded_run
+pub use Rattle.threaded_run

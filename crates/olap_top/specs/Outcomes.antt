@@ -1,7 +1,7 @@
 -- What each answer of the top call says of the source, the sink and the history.
 --
 -- `before` and `now` are what a source has left, or a sink has taken, before the call and after it, where it tells that.
-use Rattle.std.specs.{Io.KnownBytes.{Appends, Consumes, IsAtEnd}, List.AllZip, Prelude.{ℕ, ◌≡◌, ◌+◌, ◌<◌, ◌≤◌, ◌^◌, ◌⊎◌, ⊤, Bool, IsTrue, Option, Some, Ok, Err, List, [], ◌∷◌, ◌++◌, filter, length, take, None}}
+use Rattle.std.specs.{Io.KnownBytes.{Appends, Consumes, IsAtEnd}, List.AllZip, Prelude.{ℕ, ◌≡◌, ◌+◌, ◌<◌, ◌≤◌, ◌^◌, ◌⊎◌, ◌&&◌, ⊤, Bool, true, false, if◌then◌else◌, nat_lt, IsTrue, Option, Some, Ok, Err, List, [], ◌∷◌, ◌++◌, filter, length, take, None}}
 use Rattle.volap_io.specs.Causes.{Rose}
 use Rattle.rand_core.specs.Pcg32Seed.{pcg32_seed}
 use Rattle.rand_pcg.specs.Pcg.{pcg32_of_seed}
@@ -15,7 +15,7 @@ use Rattle.volap_gen.specs.Generated.{generated, text_of}
 use Rattle.seeded_turns.specs.declared.schedule.Schedule.{Schedule}
 use Rattle.seeded_turns.specs.declared.schedule.Schedule.TheVariants as schedule_is
 use Rattle.seeded_run.specs.Order.{is_order}
-use Rattle.olap_top.specs.{declared.outcome.Outcome.Outcome, declared.wanted.Wanted.Wanted, declared.wanted.Wanted.TheVariants.{Step, Seeded, Load}}
+use Rattle.olap_top.specs.{declared.outcome.Outcome.Outcome, declared.wanted.Wanted.Wanted, declared.wanted.Wanted.TheVariants.{Step, Seeded, Run, Load}}
 
 -- What was read.
 
@@ -27,7 +27,7 @@ pub record IsReadWhole (before now : Option (List ℕ)) (bytes : List ℕ) : Typ
 
 -- these bytes are asked for: those that the source gave; for a load the generated text, and nothing was read
 abbrev pub AreAsked : Wanted → Option (List ℕ) → Option (List ℕ) → List ℕ → Type 0
-AreAsked (Load rows seed) before now bytes = (now ≡ before) × (bytes ≡ text_of (generated rows seed))
+AreAsked (Load rows seed threads) before now bytes = (now ≡ before) × (bytes ≡ text_of (generated rows seed))
 AreAsked wanted before now bytes = IsReadWhole before now bytes
 
 -- and these bytes are this script
@@ -40,12 +40,12 @@ pub record IsAskedScript (wanted : Wanted) (before now : Option (List ℕ)) (s :
 
 -- what is asked to be written of a script that ran with this history
 abbrev pub asked_text : Wanted → Script → List Event → List ℕ
-asked_text (Load rows seed) s history = summary rows seed s.with s.commands history
+asked_text (Load rows seed threads) s history = summary rows seed s.with s.commands history
 asked_text wanted s history = told s.with s.commands history
 
 -- what of that is written when the first k phases have ended: their text, and nothing of a summary, which is written behind all phases
 abbrev pub asked_text_to : ℕ → Wanted → Script → List Event → List ℕ
-asked_text_to k (Load rows seed) s history = []
+asked_text_to k (Load rows seed threads) s history = []
 asked_text_to k wanted s history = told_to k s.with s.commands history
 
 -- the sink took the first bytes of this text, and not all of it
@@ -66,14 +66,26 @@ pub record HasRun (with : Use) (h : List Dimension) (commands : List Command) (h
   pub run : IsRunOf with h commands history
   pub inserts : AllZip (InsertEnds h history) commands (places with commands history)
 
--- The commands go one after the other; or whose turn it is the seed's generator draws, from the first phase on.
+-- whether each actor is to have a thread
+abbrev pub wants_threads : Wanted → Bool
+wants_threads Run = true
+wants_threads (Load rows seed threads) = threads
+wants_threads wanted = false
+
+abbrev pub has_commands : Script → Bool
+has_commands s = nat_lt 0 (length s.commands)
+
+-- A script without commands needs no threads: one has nothing to do.
+abbrev pub on_threads : Wanted → Script → Bool
+on_threads wanted s = wants_threads wanted && has_commands s
+
+-- On one thread the commands go one after the other; or whose turn it is the seed's generator draws, from the first phase on.
 abbrev pub schedule_of : Wanted → Schedule
-schedule_of Step = schedule_is.Order
 schedule_of (Seeded seed) = schedule_is.Seed (pcg32_of_seed (pcg32_seed 16 seed))
-schedule_of (Load rows seed) = schedule_is.Order
+schedule_of wanted = schedule_is.Order
 
 abbrev pub goes_in_order : Wanted → Bool
-goes_in_order wanted = is_order (schedule_of wanted)
+goes_in_order wanted = if wants_threads wanted then false else is_order (schedule_of wanted)
 
 -- the history is a part of a run of this script, and in it the commands begin in order, each when the one before has ended
 pub record RunsInOrder (s : Script) (history : List Event) : Type 0 where
@@ -130,7 +142,7 @@ pub record RanToSummary (rows seed : ℕ) (s : Script) (taken_before taken_now :
 
 -- the script ran up to where the sink failed
 abbrev pub RanTo : Wanted → Script → Option (List ℕ) → Option (List ℕ) → List Event → Type 0
-RanTo (Load rows seed) s taken_before taken_now history = RanToSummary rows seed s taken_before taken_now history
+RanTo (Load rows seed threads) s taken_before taken_now history = RanToSummary rows seed s taken_before taken_now history
 RanTo wanted s taken_before taken_now history = RanToPhase s taken_before taken_now history
 
 pub record IsCutOff (wanted : Wanted) (left_before left_now taken_before taken_now : Option (List ℕ)) (history : List Event) : Type 0 where
@@ -172,5 +184,5 @@ pub record IsGoodScript (left : Option (List ℕ)) : Type 0 where
 
 -- there is a good script: the generated text is one, and else the source tells its bytes, and they are one
 abbrev pub HasGoodScript : Wanted → Option (List ℕ) → Type 0
-HasGoodScript (Load rows seed) left = ⊤
+HasGoodScript (Load rows seed threads) left = ⊤
 HasGoodScript wanted left = IsGoodScript left

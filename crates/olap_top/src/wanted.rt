@@ -1,8 +1,8 @@
-//! What the words of a command line want to run: a script from the source, with a seed or without, or
+//! What the words of a command line want to run: a script from the source, in one of three ways, or
 //! the generated one.
 ghost use Rattle.std.specs.Prelude.{◌≡◌, codes, map, option_and_then, option_map, string_bytes};
 ghost use Rattle.std.specs.Str.{bytes_eq};
-ghost use Rattle.olap_top.specs.Wanted.{behind, given, given_alone, given_both, load_by, load_of, row_count_of, seed_of, step_of, wanted};
+ghost use Rattle.olap_top.specs.Wanted.{behind, given, given_alone, given_both, given_next, load_by, load_of, row_count_of, run_of, seed_of, skip_threads, step_of, threads_at_end, wanted};
 
 use script_form::field::number;
 
@@ -14,9 +14,11 @@ pub enum Wanted {
     /// A script from the source, on this thread, where a seed draws whose turn it is: `step` with
     /// the option `--seed`.
     Seeded(u64),
-    /// The generated script of so many rows by a seed, run as `step` runs one, and its summary: `load`
-    /// with the options `--rows` and `--seed`.
-    Load { rows: u64, seed: u64 },
+    /// A script from the source, with a thread for each actor: the word `run`.
+    Run,
+    /// The generated script of `rows` rows by a seed, run as `step` runs one, or as `run` where threads
+    /// are wanted, and its summary: `load` with the options `--rows`, `--seed` and perhaps `--threads`.
+    Load { rows: u64, seed: u64, threads: bool },
 }
 
 /// How many rows a generated script has at most.
@@ -82,13 +84,56 @@ fn given_alone<'a>(name: &str, words: &'a [String]) -> Option<&'a [u8]>
     if rest.is_empty() { Some(text) } else { None }
 }
 
-/// What these words give two options, in this order.
-fn given_both<'a>(first: &str, second: &str, words: &'a [String]) -> Option<(&'a [u8], &'a [u8])>
-    ensures { option_map (λ both. (both.0.now, both.1.now)) result ≡ given_both first.now second.now (map string_bytes words.now) }
+/// Takes the word `--threads` off the front of these words, where it has not been found before: whether
+/// it has been found now, and the words behind.
+fn skip_threads<'a>(found: bool, words: &'a [String]) -> (bool, &'a [String])
+    ensures { (result.0, map string_bytes result.1.now) ≡ skip_threads found (map string_bytes words.now) }
 {
-    let (one, rest) = given(first, words)?;
-    let two = given_alone(second, rest)?;
-    Some((one, two))
+    let Some((word, rest)) = words.split_first() else {
+        return (found, words);
+    };
+    if !found && is_word(word, "--threads") {
+        (true, rest)
+    } else {
+        (found, words)
+    }
+}
+
+/// What the first of these words give an option, with `--threads` before it or not: the text, whether
+/// `--threads` has been found, and the words behind.
+fn given_next<'a>(
+    name: &str,
+    found: bool,
+    words: &'a [String],
+) -> Option<(&'a [u8], bool, &'a [String])>
+    ensures { option_map (λ one. (one.0.now, one.1, map string_bytes one.2.now)) result ≡ given_next name.now found (map string_bytes words.now) }
+{
+    let (found, rest) = skip_threads(found, words);
+    let (text, rest) = given(name, rest)?;
+    Some((text, found, rest))
+}
+
+/// Whether `--threads` has been found at the end of the words; nothing where another word is left.
+fn threads_at_end(found: bool, words: &[String]) -> Option<bool>
+    ensures { result ≡ threads_at_end found (map string_bytes words.now) }
+{
+    let (found, rest) = skip_threads(found, words);
+    if rest.is_empty() { Some(found) } else { None }
+}
+
+/// What these words give two options, in this order, and whether `--threads` stands before, between or
+/// behind them.
+fn given_both<'a>(
+    first: &str,
+    second: &str,
+    words: &'a [String],
+) -> Option<(&'a [u8], &'a [u8], bool)>
+    ensures { option_map (λ both. (both.0.now, both.1.now, both.2)) result ≡ given_both first.now second.now (map string_bytes words.now) }
+{
+    let (one, found, rest) = given_next(first, false, words)?;
+    let (two, found, rest) = given_next(second, found, rest)?;
+    let threads = threads_at_end(found, rest)?;
+    Some((one, two, threads))
 }
 
 /// What `step` with these options wants.
@@ -102,24 +147,39 @@ fn step_of(options: &[String]) -> Option<Wanted>
     seed_of(text).map(Wanted::Seeded)
 }
 
-/// The load of so many rows by this seed.
-fn load_by(rows: &[u8], seed: &[u8]) -> Option<Wanted>
-    ensures { result ≡ load_by rows.now seed.now }
+/// What `run` with these options wants; it knows no option.
+fn run_of(options: &[String]) -> Option<Wanted>
+    ensures { result ≡ run_of (map string_bytes options.now) }
+{
+    if options.is_empty() {
+        Some(Wanted::Run)
+    } else {
+        None
+    }
+}
+
+/// The load of this number of rows by this seed, with threads or without.
+fn load_by(rows: &[u8], seed: &[u8], threads: bool) -> Option<Wanted>
+    ensures { result ≡ load_by rows.now seed.now threads }
 {
     let rows = row_count_of(rows)?;
     let seed = seed_of(seed)?;
-    Some(Wanted::Load { rows, seed })
+    Some(Wanted::Load {
+        rows,
+        seed,
+        threads,
+    })
 }
 
 /// What `load` with these options wants.
 fn load_of(options: &[String]) -> Option<Wanted>
     ensures { result ≡ load_of (map string_bytes options.now) }
 {
-    if let Some((rows, seed)) = given_both("--rows", "--seed", options) {
-        return load_by(rows, seed);
+    if let Some((rows, seed, threads)) = given_both("--rows", "--seed", options) {
+        return load_by(rows, seed, threads);
     }
-    let (seed, rows) = given_both("--seed", "--rows", options)?;
-    load_by(rows, seed)
+    let (seed, rows, threads) = given_both("--seed", "--rows", options)?;
+    load_by(rows, seed, threads)
 }
 
 /// What words want.
@@ -129,6 +189,8 @@ fn by_words(words: &[String]) -> Option<Wanted>
     let (first, options) = words.split_first()?;
     if is_word(first, "step") {
         step_of(options)
+    } else if is_word(first, "run") {
+        run_of(options)
     } else if is_word(first, "load") {
         load_of(options)
     } else {

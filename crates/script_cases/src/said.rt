@@ -31,17 +31,31 @@ pub(crate) fn word_of(status: Status) -> &'static str {
     }
 }
 
-/// What is wanted, as a line says it: `Step`, `Seeded 7`, `Load 3 1` or `nothing`.
+/// What a load wants, as `3 1` or `3 1 threads`: its rows, its seed, and whether with threads.
+fn load_of(said: &str) -> Result<Wanted, Fault> {
+    let (rows, rest) = number_before(said)?;
+    let (seed, more) = rest.split_once(' ').unwrap_or((rest, ""));
+    let threads = match more {
+        "threads" => true,
+        "" => false,
+        _ => return Err(Fault::Word),
+    };
+    let seed = number_of(seed)?;
+    Ok(Wanted::Load {
+        rows,
+        seed,
+        threads,
+    })
+}
+
+/// What is wanted, as a line says it: `Step`, `Seeded 7`, `Run`, `Load 3 1`, `Load 3 1 threads` or `nothing`.
 pub(crate) fn wanted_of(line: &str) -> Result<Option<Wanted>, Fault> {
     let (word, rest) = line.split_once(' ').unwrap_or((line, ""));
     match word {
         "Step" => Ok(Some(Wanted::Step)),
         "Seeded" => Ok(Some(Wanted::Seeded(number_of(rest)?))),
-        "Load" => {
-            let (rows, seed) = number_before(rest)?;
-            let seed = number_of(seed)?;
-            Ok(Some(Wanted::Load { rows, seed }))
-        }
+        "Run" => Ok(Some(Wanted::Run)),
+        "Load" => Ok(Some(load_of(rest)?)),
         "nothing" => Ok(None),
         _ => Err(Fault::Word),
     }
@@ -53,7 +67,15 @@ pub(crate) fn line_of(alloc: Global, wanted: Option<Wanted>) -> Result<String, A
         None => format!(in alloc; "nothing"),
         Some(Wanted::Step) => format!(in alloc; "Step"),
         Some(Wanted::Seeded(seed)) => format!(in alloc; "Seeded {seed}"),
-        Some(Wanted::Load { rows, seed }) => format!(in alloc; "Load {rows} {seed}"),
+        Some(Wanted::Run) => format!(in alloc; "Run"),
+        Some(Wanted::Load {
+            rows,
+            seed,
+            threads,
+        }) => {
+            let more = if threads { " threads" } else { "" };
+            format!(in alloc; "Load {rows} {seed}{more}")
+        }
     }
 }
 

@@ -5,7 +5,7 @@ use Rattle.olap_top.proofs.Complete.{complete}
 use Rattle.olap_top.proofs.top.olap.Goals as goal
 
 pub run_source-requires : goal.run_source-requires
-run_source-requires g c = c.in-Some.ensures.few
+run_source-requires g c = (c.type_bounds.sync-R, (c.type_bounds.sync-M, c.in-Some.ensures.few))
 
 pub returns-in-Some-clause-words : goal.returns-in-Some-clause-words
 returns-in-Some-clause-words g c = (λ is wanted ask. c.run_source.ensures.words is, λ none. absurd (none c.in-Some.wanted c.in-Some.ensures.some))
@@ -60,12 +60,12 @@ returns-in-Some-clause-complete g c = λ wanted ask good no_read_fault no_write_
     complete c.in-Some.wanted c.run_source.result.status (g.S.Source.left c.args.source.now) (g.S.Source.left c.run_source.new.source) (g.K.Sink.taken c.args.sink.now) (g.K.Sink.taken c.run_source.new.sink) (g.K.Sink.faults c.args.sink.now) (g.K.Sink.faults c.run_source.new.sink)
     (subst (λ (t : Wanted). HasGoodScript t (g.S.Source.left c.args.source.now)) (sym same) good)
     (λ is. no_read_fault (c.run_source.ensures.read_fault is).0) c.run_source.ensures.words (λ is. no_write_fault (c.run_source.ensures.write_fault is).0)
-    (λ is. (c.run_source.ensures.bad_script is).0) (λ is. (c.run_source.ensures.too_large is).0) (λ rows seed load. (c.run_source.ensures.load rows seed load).1)
+    (λ is. (c.run_source.ensures.bad_script is).0) (λ is. (c.run_source.ensures.too_large is).0) (λ rows seed threads load. (c.run_source.ensures.load rows seed threads load).1)
 
 pub returns-in-Some-clause-load : goal.returns-in-Some-clause-load
-returns-in-Some-clause-load g c = λ rows seed ask.
-    let same : c.in-Some.wanted ≡ Load rows seed = let asked = c.of_words.ensures.sole (Load rows seed) ask in let found = c.in-Some.is in cc in
-    c.run_source.ensures.load rows seed same
+returns-in-Some-clause-load g c = λ rows seed threads ask.
+    let same : c.in-Some.wanted ≡ Load rows seed threads = let asked = c.of_words.ensures.sole (Load rows seed threads) ask in let found = c.in-Some.is in cc in
+    c.run_source.ensures.load rows seed threads same
 
 pub returns-in-None-clause-words : goal.returns-in-None-clause-words
 returns-in-None-clause-words g c = (λ is wanted ask. c.of_words.ensures.none c.in-None.is wanted ask, λ none. c.without_run.ensures.status)
@@ -104,4 +104,4 @@ pub returns-in-None-clause-complete : goal.returns-in-None-clause-complete
 returns-in-None-clause-complete g c = λ wanted ask good no_read_fault no_write_fault. absurd (c.of_words.ensures.none c.in-None.is wanted ask)
 
 pub returns-in-None-clause-load : goal.returns-in-None-clause-load
-returns-in-None-clause-load g c = λ rows seed ask. absurd (c.of_words.ensures.none c.in-None.is (Load rows seed) ask)
+returns-in-None-clause-load g c = λ rows seed threads ask. absurd (c.of_words.ensures.none c.in-None.is (Load rows seed threads) ask)

@@ -5,13 +5,13 @@ use Rattle.olap_top.specs.declared.outcome.Status.TheVariants as status_is
 use Rattle.olap_top.proofs.top.run_bytes.Goals as goal
 
 pub run_script-requires-clause-settings : goal.run_script-requires-clause-settings
-run_script-requires-clause-settings g c = c.in-Ok.ensures.settings
+run_script-requires-clause-settings g c κs within = c.in-Ok.ensures.settings
 
 pub run_script-requires-clause-fits : goal.run_script-requires-clause-fits
-run_script-requires-clause-fits g c = c.in-Ok.ensures.fits
+run_script-requires-clause-fits g c κs within = c.in-Ok.ensures.fits
 
 pub run_script-requires-clause-dims : goal.run_script-requires-clause-dims
-run_script-requires-clause-dims g c = c.in-Ok.ensures.dims
+run_script-requires-clause-dims g c κs within = c.in-Ok.ensures.dims
 
 pub returns-in-Ok-clause-kinds : goal.returns-in-Ok-clause-kinds
 returns-in-Ok-clause-kinds g c = elim c.run_script.ensures.kinds [

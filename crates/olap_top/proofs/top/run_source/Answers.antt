@@ -65,13 +65,13 @@ returns-in-Ok-clause-run g c = elim c.run_bytes.ensures.run [
 ]
 
 pub returns-in-Ok-clause-load : goal.returns-in-Ok-clause-load
-returns-in-Ok-clause-load g c = λ rows seed load. (
-  (c.wanted_bytes.ensures.load rows seed load).0,
+returns-in-Ok-clause-load g c = λ rows seed threads load. (
+  (c.wanted_bytes.ensures.load rows seed threads load).0,
   elim c.run_bytes.ensures.kinds [
     | inl done ↦ inl done
     | inr (inl is) ↦
         let bad = c.run_bytes.ensures.bad_script is in
-        absurd (load-good rows seed (g.S.Source.left c.args.source.now) (g.S.Source.left c.wanted_bytes.new.source) c.in-Ok.bytes.items bad.0 bad.1 c.generated_is_a_script.ensures (subst (λ (w : Wanted). AreAsked w (g.S.Source.left c.args.source.now) (g.S.Source.left c.wanted_bytes.new.source) c.in-Ok.bytes.items) load c.in-Ok.ensures.asked) bad.2)
+        absurd (load-good rows seed threads (g.S.Source.left c.args.source.now) (g.S.Source.left c.wanted_bytes.new.source) c.in-Ok.bytes.items bad.0 bad.1 c.generated_is_a_script.ensures (subst (λ (w : Wanted). AreAsked w (g.S.Source.left c.args.source.now) (g.S.Source.left c.wanted_bytes.new.source) c.in-Ok.bytes.items) load c.in-Ok.ensures.asked) bad.2)
     | inr (inr rest) ↦ inr rest
   ],
 )
@@ -104,9 +104,9 @@ pub returns-in-Err-ReadFault-clause-run : goal.returns-in-Err-ReadFault-clause-r
 returns-in-Err-ReadFault-clause-run g c = inl (λ is. let same : status_is.ReadFault ≡ status_is.Done = sym c.without_run.ensures.status ∙ is in cc, λ is. let same : status_is.ReadFault ≡ status_is.WriteFault = sym c.without_run.ensures.status ∙ is in cc, c.without_run.ensures.nothing)
 
 pub returns-in-Err-ReadFault-clause-load : goal.returns-in-Err-ReadFault-clause-load
-returns-in-Err-ReadFault-clause-load g c = λ rows seed load.
+returns-in-Err-ReadFault-clause-load g c = λ rows seed threads load.
     let failed : c.wanted_bytes.result ≡ Err end_is.ReadFault = let first = c.in-Err-ReadFault.is in let second = c.in-Err-ReadFault.field-0-is in cc in
-    absurd ((c.wanted_bytes.ensures.load rows seed load).2 failed)
+    absurd ((c.wanted_bytes.ensures.load rows seed threads load).2 failed)
 
 pub returns-in-Err-TooLarge-clause-words : goal.returns-in-Err-TooLarge-clause-words
 returns-in-Err-TooLarge-clause-words g c = λ is. let same : status_is.TooLarge ≡ status_is.BadWords = sym c.without_run-in-Err-TooLarge.ensures.status ∙ is in cc
@@ -135,9 +135,9 @@ pub returns-in-Err-TooLarge-clause-run : goal.returns-in-Err-TooLarge-clause-run
 returns-in-Err-TooLarge-clause-run g c = inl (λ is. let same : status_is.TooLarge ≡ status_is.Done = sym c.without_run-in-Err-TooLarge.ensures.status ∙ is in cc, λ is. let same : status_is.TooLarge ≡ status_is.WriteFault = sym c.without_run-in-Err-TooLarge.ensures.status ∙ is in cc, c.without_run-in-Err-TooLarge.ensures.nothing)
 
 pub returns-in-Err-TooLarge-clause-load : goal.returns-in-Err-TooLarge-clause-load
-returns-in-Err-TooLarge-clause-load g c = λ rows seed load.
+returns-in-Err-TooLarge-clause-load g c = λ rows seed threads load.
     let failed : c.wanted_bytes.result ≡ Err end_is.TooLarge = let first = c.in-Err-TooLarge.is in let second = c.in-Err-TooLarge.field-0-is in cc in
-    absurd ((c.wanted_bytes.ensures.load rows seed load).1 failed)
+    absurd ((c.wanted_bytes.ensures.load rows seed threads load).1 failed)
 
 pub returns-in-Err-NoMemory-clause-words : goal.returns-in-Err-NoMemory-clause-words
 returns-in-Err-NoMemory-clause-words g c = λ is. let same : status_is.NoMemory ≡ status_is.BadWords = sym c.without_run-in-Err-NoMemory.ensures.status ∙ is in cc
@@ -164,4 +164,4 @@ pub returns-in-Err-NoMemory-clause-run : goal.returns-in-Err-NoMemory-clause-run
 returns-in-Err-NoMemory-clause-run g c = inl (λ is. let same : status_is.NoMemory ≡ status_is.Done = sym c.without_run-in-Err-NoMemory.ensures.status ∙ is in cc, λ is. let same : status_is.NoMemory ≡ status_is.WriteFault = sym c.without_run-in-Err-NoMemory.ensures.status ∙ is in cc, c.without_run-in-Err-NoMemory.ensures.nothing)
 
 pub returns-in-Err-NoMemory-clause-load : goal.returns-in-Err-NoMemory-clause-load
-returns-in-Err-NoMemory-clause-load g c = λ rows seed load. ((c.wanted_bytes.ensures.load rows seed load).0, inr (inr c.without_run-in-Err-NoMemory.ensures.status))
+returns-in-Err-NoMemory-clause-load g c = λ rows seed threads load. ((c.wanted_bytes.ensures.load rows seed threads load).0, inr (inr c.without_run-in-Err-NoMemory.ensures.status))

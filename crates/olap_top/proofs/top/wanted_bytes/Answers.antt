@@ -25,7 +25,7 @@ returns-in_err-generate-in-Load-clause-fault g c = λ is.
     absurd (let same = sym failed.1 ∙ is in cc)
 
 pub returns-in_err-generate-in-Load-clause-load : goal.returns-in_err-generate-in-Load-clause-load
-returns-in_err-generate-in-Load-clause-load g c = λ rows seed load.
+returns-in_err-generate-in-Load-clause-load g c = λ rows seed threads load.
     let failed = err_from_is_err_and c.from_residual.result c.from_residual.ensures.1 in
     let none : failed.0 ≡ end_is.NoMemory = failed.2 in
     (refl, λ is. let same = sym failed.1 ∙ is in cc, λ is. let same = sym failed.1 ∙ is in cc)
@@ -35,7 +35,7 @@ returns-in-Step g c = record {
   asked = asked-read c.args.wanted c.in-Step.is (g.S.Source.left c.args.source.now) (g.S.Source.left c.read_all.new.source) c.read_all.result c.read_all.ensures.all c.read_all.ensures.within;
   large = c.read_all.ensures.large;
   fault = λ is. (c.read_all.ensures.fault is, c.read_all.ensures.fault_within is);
-  load = λ rows seed load. absurd (false≢true (sym (ap tells_phases load) ∙ tells-step c.args.wanted c.in-Step.is));
+  load = λ rows seed threads load. absurd (false≢true (sym (ap tells_phases load) ∙ tells-step c.args.wanted c.in-Step.is));
 }
 
 pub returns-in_ok-generate-in-Load-clause-asked : goal.returns-in_ok-generate-in-Load-clause-asked
@@ -50,4 +50,4 @@ pub returns-in_ok-generate-in-Load-clause-fault : goal.returns-in_ok-generate-in
 returns-in_ok-generate-in-Load-clause-fault g c = λ is. absurd cc
 
 pub returns-in_ok-generate-in-Load-clause-load : goal.returns-in_ok-generate-in-Load-clause-load
-returns-in_ok-generate-in-Load-clause-load g c = λ rows seed load. (refl, λ is. cc, λ is. cc)
+returns-in_ok-generate-in-Load-clause-load g c = λ rows seed threads load. (refl, λ is. cc, λ is. cc)

@@ -3,9 +3,6 @@ use Rattle.std.specs.Io.KnownBytes.{Appends}
 use Rattle.olap_top.specs.Outcomes.{TookPart}
 use Rattle.olap_top.proofs.top.write_summary.Goals as goal
 
-pub summary-requires : goal.summary-requires
-summary-requires g c = c.requires
-
 pub returns-in_default-clause-kinds : goal.returns-in_default-clause-kinds
 returns-in_default-clause-kinds g c = inr (inr refl)
 
@@ -28,7 +25,7 @@ pub returns-in_default-write_all-clause-write_fault : goal.returns-in_default-wr
 returns-in_default-write_all-clause-write_fault g c = λ is.
     let part = c.in_default-write_all.ensures.part in (
       c.in_default-write_all.ensures.cause.failed,
-      subst (TookPart (g.K.Sink.taken c.args.sink.now) (g.K.Sink.taken c.write_all.new.sink)) (c.deref.ensures.value ∙ c.in-Ok.ensures) (record { count = part.0; part = part.1; took = part.2 }),
+      subst (TookPart (g.K.Sink.taken c.args.sink.now) (g.K.Sink.taken c.write_all.new.sink)) (c.deref.ensures.value ∙ c.in-Ok.ensures.text) (record { count = part.0; part = part.1; took = part.2 }),
     )
 
 pub returns-in_default-write_all-clause-done : goal.returns-in_default-write_all-clause-done
@@ -44,4 +41,4 @@ pub returns-clause-write_fault : goal.returns-clause-write_fault
 returns-clause-write_fault g c = λ is. absurd cc
 
 pub returns-clause-done : goal.returns-clause-done
-returns-clause-done g c = λ is. subst (Appends (g.K.Sink.taken c.args.sink.now) (g.K.Sink.taken c.write_all.new.sink)) (c.deref.ensures.value ∙ c.in-Ok.ensures) c.in-Ok-write_all.ensures.all
+returns-clause-done g c = λ is. subst (Appends (g.K.Sink.taken c.args.sink.now) (g.K.Sink.taken c.write_all.new.sink)) (c.deref.ensures.value ∙ c.in-Ok.ensures.text) c.in-Ok-write_all.ensures.all
