@@ -68,11 +68,13 @@ pub(crate) fn line_of(alloc: Global, wanted: Option<Wanted>) -> Result<String, A
         Some(Wanted::Step) => format!(in alloc; "Step"),
         Some(Wanted::Seeded(seed)) => format!(in alloc; "Seeded {seed}"),
         Some(Wanted::Run) => format!(in alloc; "Run"),
-        Some(Wanted::Load {
-            rows,
-            seed,
-            threads,
-        }) => {
+        Some(
+            Wanted::Load {
+                rows,
+                seed,
+                threads,
+            },
+        ) => {
             let more = if threads { " threads" } else { "" };
             format!(in alloc; "Load {rows} {seed}{more}")
         }
