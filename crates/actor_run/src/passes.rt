@@ -92,7 +92,9 @@ impl Passes {
     /// The history that they have seen is right. Takes nothing, and changes nothing.
     pub fn right(&self)
         ensures { IsRight (site_in self.now.setting) self.now.seen }
-    {}
+    {
+        let _ = &self.seat;
+    }
 
     /// Gives out the pass of the role at this place; `None` exactly where there is no such role, or its pass is out. Takes no memory.
     pub fn take(&mut self, hall: &Hall, number: u16) -> Option<Pass>
