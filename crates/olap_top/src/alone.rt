@@ -19,6 +19,7 @@ ghost use Rattle.seeded_run.specs.script_roles.specs.Roles.{CanOpen};
 ghost use Rattle.seeded_run.specs.Phase.{IsCoreHeld};
 
 use crate::wanted::Wanted;
+use core_laws::volap_cell::{Cell, State};
 use dim_hierarchy::Hierarchy;
 use row_ledger::{Event, Use};
 use script_form::Command;
@@ -26,7 +27,6 @@ use seeded_run::{open_core, run_phase};
 use seeded_turns::Schedule;
 use std::alloc::{AllocError, Global};
 use threaded_run::actor_run::ReadsHistory;
-use volap_cell::{Cell, State};
 
 /// The core of a script's run, which one thread holds, and whose turn is next in it.
 #[derive(Drop)]

@@ -15,12 +15,12 @@ ghost use Rattle.threaded_run.specs.Streams.{ClosesLast};
 
 use crate::alone::OnOneThread;
 use crate::threads::OnThreads;
+use core_laws::volap_cell::State;
 use script_form::Command;
 use std::alloc::{AllocError, Global};
 use std::sync::Wait;
 use std::thread::Threads;
 use threaded_run::actor_run::ReadsHistory;
-use volap_cell::State;
 use volap_io::Meet;
 
 /// What runs the phases of a script, and keeps its history. It has opened for the script.

@@ -16,6 +16,7 @@ ghost use Rattle.script_run.specs.Runs.{IsRunSoFar};
 ghost use Rattle.threaded_run.specs.Streams.{ClosesLast};
 ghost use Rattle.script_form.specs.declared.script.Script.{Script};
 
+use core_laws::volap_cell::State;
 use dim_hierarchy::Hierarchy;
 use row_ledger::Use;
 use script_form::Command;
@@ -24,7 +25,6 @@ use std::sync::Wait;
 use std::thread::Threads;
 use threaded_run::actor_run::{Hall, Passes, ReadsHistory};
 use threaded_run::{open, run_phase};
-use volap_cell::State;
 use volap_io::Meet;
 
 /// The hall of a script's run, and its passes, which are all in between two phases.

@@ -35,6 +35,7 @@ use crate::tells::teller_of;
 use crate::threads::OnThreads;
 use crate::wanted::Wanted;
 use answer_text::BadLine;
+use core_laws::volap_cell::{Cell, State, lift_one, put_one};
 use dim_hierarchy::Hierarchy;
 use row_ledger::Ledger;
 use script_form::{Cause, Script, ScriptFault, read_script};
@@ -42,7 +43,6 @@ use script_run::phase_len;
 use std::alloc::{AllocError, Global};
 use std::sync::Wait;
 use std::thread::Threads;
-use volap_cell::{Cell, State, lift_one, put_one};
 use volap_gen::{generate, generated_is_a_script};
 use volap_io::{Meet, ReadEnd, Sink, Source, read_all, write_all};
 
