@@ -77,11 +77,11 @@ impl Meet for TwoQueries {
     }
 }
 
-/// Holds each session before it takes a part of its own until a hand has ended one. An insert wakes no hand that sleeps, so whoever
-/// comes first, with the insert, is let by.
+/// Holds each session before it takes a part of its own until a hand has ended one. An insert wakes no hand that sleeps, so the
+/// insert is let by, which comes twice: before its part, and before it ends.
 #[derive(Drop)]
 struct HandFirst {
-    /// How often a session came before a part of its own.
+    /// How often a session came before a part of its own, or before its command's end.
     calls: AtomicU64,
     /// How many parts a hand has ended.
     ends: AtomicU64,
@@ -99,10 +99,10 @@ impl HandFirst {
         }
     }
 
-    /// Holds all but the first who comes before a part.
+    /// Holds all but the first two who come.
     fn hold_later(&self) {
-        let is_first = self.calls.fetch_add(1, Ordering::SeqCst) == 0;
-        if !is_first && !wait_for(&self.ends, 1) {
+        let is_later = 2 <= self.calls.fetch_add(1, Ordering::SeqCst);
+        if is_later && !wait_for(&self.ends, 1) {
             self.missed.fetch_add(1, Ordering::SeqCst);
         }
     }
