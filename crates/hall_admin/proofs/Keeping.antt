@@ -36,9 +36,8 @@ ends-call f number call how_it.NoMemory was now ended = inr ended
 ends-call f number call how was now ended = ended
 
 -- what was refused behind a time in which nothing began was refused
-refused-behind : {T E : Type 0} (n : ℕ) (r : Result T E) (was mid now : List Event) → Extends mid was → begins_of mid n ≡ begins_of was n → NotCalled n r mid now → NotCalled n r was now
-refused-behind n (Err e) was mid now more nothing none = none ∙ nothing
-refused-behind n (Ok u) was mid now more nothing refused = record {
+pub noted-behind : (n : ℕ) (was mid now : List Event) → Extends mid was → begins_of mid n ≡ begins_of was n → WasRefused n mid now → WasRefused n was now
+noted-behind n was mid now more nothing refused = record {
   of = refused.of;
   past = (let longer = extends-length was mid more in let past = refused.past in omega (arith, longer, past));
   at = refused.at;
@@ -46,6 +45,10 @@ refused-behind n (Ok u) was mid now more nothing refused = record {
   older = refused.older;
   newest = refused.newest;
 }
+
+refused-behind : {T E : Type 0} (n : ℕ) (r : Result T E) (was mid now : List Event) → Extends mid was → begins_of mid n ≡ begins_of was n → NotCalled n r mid now → NotCalled n r was now
+refused-behind n (Err e) was mid now more nothing none = none ∙ nothing
+refused-behind n (Ok u) was mid now more nothing refused = noted-behind n was mid now more nothing refused
 
 -- an administrator without a job has nothing in its purse
 unspent : (f : Floor) (p : Player) → IsSeated f p → (actor_of p.actor).role ≡ is_role.Admin → (actor_of p.actor).job ≡ None → (actor_of p.actor).purse ≡ []
@@ -124,13 +127,17 @@ module _ (f : Floor) (role : Role) (was : Player) (c : IsCaller f role was) wher
       ends = ends;
     }
 
-  -- where it is as before, it began nothing
+  -- where it has noted nothing more, it began nothing
+  pub stays-idle : (now : Player) → Stands f now → now.number ≡ was.number → IsBut (actor_of now.actor) → (actor_of now.actor).seen ≡ a.seen → Extends now.seat.view.seen was.seat.view.seen → StaysCaller f role (HasBegunNothing was.number) was now
+  stays-idle now stands number same few later =
+      let noted : (actor_of now.actor).seen ≤ length was.seat.view.seen = (let before = c.pass.noted in omega (arith, before, few)) in
+      let longer = extends-length was.seat.view.seen now.seat.view.seen later in
+      stays now stands number same (omega (arith, noted, longer)) later (HasBegunNothing was.number)
+      (subst (λ (n : ℕ). begins_of now.seat.view.seen n ≡ begins_of was.seat.view.seen n) number (begun-nothing f now stands.seated was.seat.view.seen later noted))
+
+  -- so it is where it is as before
   pub stays-before : (now : Player) → IsAsBefore f was now → StaysCaller f role (HasBegunNothing was.number) was now
-  stays-before now before =
-      let noted : (actor_of now.actor).seen ≤ length was.seat.view.seen = subst (λ (x : ActorValue). x.seen ≤ length was.seat.view.seen) (sym before.actor) c.pass.noted in
-      let longer = extends-length was.seat.view.seen now.seat.view.seen before.seen in
-      stays now before.stands before.number (subst IsBut (sym before.actor) refl) (omega arith) before.seen (HasBegunNothing was.number)
-      (subst (λ (n : ℕ). begins_of now.seat.view.seen n ≡ begins_of was.seat.view.seen n) before.number (begun-nothing f now before.stands.seated was.seat.view.seen before.seen noted))
+  stays-before now before = stays-idle now before.stands before.number (subst IsBut (sym before.actor) refl) (ap (λ (x : ActorValue). x.seen) before.actor) before.seen
 
   -- its command was noted as refused
   pub stays-refused : (now : Player) → HasNoted f refused_by was now → StaysCaller f role (WasRefused was.number) was now
@@ -183,16 +190,22 @@ module _ (f : Floor) (role : Role) (was : Player) (c : IsCaller f role was) wher
     stays-admin admin =
         stays-done (unspent f now done.stands.seated (ap (λ (x : ActorValue). x.role) done.actor ∙ c.role_is ∙ admin) (ap (λ (x : ActorValue). x.job) done.actor))
 
--- It was refused behind a time in which it began nothing.
+-- Behind a time in which it began nothing.
+module _ (f : Floor) (role : Role) (was mid now : Player) (first : StaysCaller f role (HasBegunNothing was.number) was mid) where
+  pub stays-behind : (Ends : ℕ → List Event → List Event → Type 0) → (Ends was.number mid.seat.view.seen now.seat.view.seen → Ends was.number was.seat.view.seen now.seat.view.seen)
+      → StaysCaller f role (Ends mid.number) mid now → StaysCaller f role (Ends was.number) was now
+  stays-behind Ends on second = record {
+    caller = second.caller;
+    number = second.number ∙ first.number;
+    heard = record { later = extends-on now.seat.view.seen mid.seat.view.seen was.seat.view.seen second.heard.later first.heard.later; right = second.heard.right };
+    ends = on (subst (λ (n : ℕ). Ends n mid.seat.view.seen now.seat.view.seen) first.number second.ends);
+  }
+
+-- It was refused there.
 pub refused-later : {T E : Type 0} (r : Result T E) (f : Floor) (role : Role) (was mid now : Player) → StaysCaller f role (HasBegunNothing was.number) was mid → StaysCaller f role (NotCalled mid.number r) mid now
     → StaysCaller f role (NotCalled was.number r) was now
-refused-later r f role was mid now first second = record {
-  caller = second.caller;
-  number = second.number ∙ first.number;
-  heard = record { later = extends-on now.seat.view.seen mid.seat.view.seen was.seat.view.seen second.heard.later first.heard.later; right = second.heard.right };
-  ends = refused-behind was.number r was.seat.view.seen mid.seat.view.seen now.seat.view.seen first.heard.later first.ends
-      (subst (λ (n : ℕ). NotCalled n r mid.seat.view.seen now.seat.view.seen) first.number second.ends);
-}
+refused-later r f role was mid now first second =
+    stays-behind f role was mid now first (λ (n : ℕ). NotCalled n r) (refused-behind was.number r was.seat.view.seen mid.seat.view.seen now.seat.view.seen first.heard.later first.ends) second
 
 module _ (f : Floor) (role : Role) (was now : Player) where
   -- so its call found no memory

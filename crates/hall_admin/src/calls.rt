@@ -10,6 +10,7 @@ ghost use Rattle.job_steps.specs.volap_cell.specs.declared.role.Role.TheVariants
 
 use crate::driving::drive;
 use crate::puller::Synced;
+use crate::reuses::reuse_released;
 use actor_run::call_steps::begin_call;
 use actor_run::session_steps::note_refused;
 use job_steps::seat_steps::{Floor, Player};
@@ -17,8 +18,8 @@ use row_ledger::{Call, How};
 use std::alloc::{AllocError, Global};
 use std::sync::Wait;
 
-/// The administrator makes the call, to its end. It is an error where memory is wanting and nothing of the call stands in the
-/// history.
+/// The administrator makes the call, to its end. Before it begins, cells of gates that are gone are used again. It is an error
+/// where memory is wanting and nothing of the call stands in the history.
 pub(crate) fn make_call<R: Wait>(
     rt: &R,
     alloc: Global,
@@ -30,6 +31,7 @@ pub(crate) fn make_call<R: Wait>(
     requires job { IsOfJob (class_of call.now) }
     ensures ends { StaysCaller floor.now is_role.Admin (TriesCall floor.now player.old.number call.now result) player.old player.new }
 {
+    reuse_released(rt, alloc, floor, player);
     match begin_call(rt, alloc, floor, player, call) {
         Ok(_) => Ok(drive(rt, alloc, floor, player)),
         Err(_) => {

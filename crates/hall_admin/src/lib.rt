@@ -6,6 +6,7 @@ mod admin;
 mod calls;
 mod driving;
 mod puller;
+mod reuses;
 
 pub use admin::Admin;
 pub use puller::{Puller, Synced};
