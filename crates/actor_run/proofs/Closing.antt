@@ -11,9 +11,9 @@ use Rattle.dim_hierarchy.specs.Dimension.{Dimension}
 use Rattle.list_words.proofs.Elements.{Some-same}
 use Rattle.list_words.specs.Counts.{times}
 use Rattle.row_ledger.specs.{Right.IsRight, Site.Site, declared.event.Event.Event}
-use Rattle.whole_steps.specs.call_steps.specs.core_due.proofs.InStates.{cells-seen}
+use Rattle.whole_steps.specs.core_due.proofs.InStates.{cells-seen}
 use Rattle.whole_steps.specs.seat_steps.specs.declared.floor.Floor.{Floor}
-use Rattle.whole_steps.specs.volap_cell.specs.shard_store.specs.declared.gate.{Phase.Phase, Phase.TheVariants.Gone}
+use Rattle.whole_steps.specs.shard_store.specs.declared.gate.{Phase.Phase, Phase.TheVariants.Gone}
 use Rattle.turn_table.specs.{Numbered.value_of, Seat.SeatValue, Views.HasAll}
 use Rattle.whole_steps.specs.volap_cell.specs.{Cells.{CellValue, phase_of}, Reusing.is_gone, Setting.{Setting, actor_count}, Sights.IsIdle, State.IsWorldOf, Values.{ActorValue, actor_of}, World.World, declared.role.Role.TheVariants.Admin, declared.actor.Actor.Actor, declared.cell.Cell.Cell, declared.state.State.State}
 use Rattle.whole_steps.specs.volap_cell.proofs.Cells.States.{is-some, of-it}

@@ -5,7 +5,7 @@ use Rattle.dim_hierarchy.specs.Dimension.{Dimension}
 use Rattle.row_ledger.specs.{Kept.IsOpeningHistory, Right.IsRight, Site.site_of, declared.settings.Use.Use}
 use Rattle.script_run.specs.Places.{begins_of}
 use Rattle.whole_steps.specs.seat_steps.specs.declared.floor.Floor.{Floor}
-use Rattle.whole_steps.specs.volap_cell.specs.shard_store.specs.declared.gate.Phase.TheVariants.{Gone}
+use Rattle.whole_steps.specs.shard_store.specs.declared.gate.Phase.TheVariants.{Gone}
 use Rattle.whole_steps.specs.volap_cell.specs.{Cells.phase_of, Filling.setting_for, Numbering.IsSetting, Setting.{Setting, site_in}, State.IsWorldOf, World.World, declared.role.Role.{Role}, declared.role.Role.TheVariants.{Admin, Puller}, declared.state.State.State}
 use Rattle.whole_steps.specs.volap_turns.specs.Wholes.{AreIdle, HasHistory, IsWhole}
 

@@ -7,10 +7,10 @@ pub mod Sessions
 pub mod Doing
 pub mod Cursors
 pub mod Wholes
--- What stands below is passed on.
-pub use Rattle.whole_steps.specs.volap_cell
-pub use Rattle.whole_steps.specs.volap_turns
-pub use Rattle.whole_steps.specs.seat_steps
-pub use Rattle.whole_steps.specs.session_steps
-pub use Rattle.whole_steps.specs.call_steps
-pub use Rattle.whole_steps
+-- What is passed on of the libraries below, module by module.
+pub mod volap_cell
+pub mod volap_turns
+pub mod seat_steps
+pub mod session_steps
+pub mod call_steps
+pub mod whole_steps

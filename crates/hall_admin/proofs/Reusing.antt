@@ -6,8 +6,8 @@ use Rattle.hall_admin.proofs.Keeping.{caller-stands, noted-behind, stays-behind,
 use Rattle.hall_admin.specs.Callers.{IsCaller, StaysCaller}
 use Rattle.job_steps.specs.Reuses.{HasReused, IsBetween, after_reuse}
 use Rattle.job_steps.specs.seat_steps.proofs.Since.{extends-on}
-use Rattle.job_steps.specs.seat_steps.specs.core_steps.specs.declared.reuses.ReuseStep.{ReuseStep}
-use Rattle.job_steps.specs.seat_steps.specs.core_steps.specs.declared.reuses.ReuseStep.TheVariants as reuse
+use Rattle.job_steps.specs.core_steps.specs.declared.reuses.ReuseStep.{ReuseStep}
+use Rattle.job_steps.specs.core_steps.specs.declared.reuses.ReuseStep.TheVariants as reuse
 use Rattle.job_steps.specs.seat_steps.specs.declared.floor.{Floor.Floor, Player.Player}
 use Rattle.job_steps.specs.volap_cell.specs.{Values.{ActorValue, actor_of}, declared.role.Role.Role}
 use Rattle.job_steps.specs.volap_cell.specs.declared.role.Role.TheVariants.{Admin}

@@ -2,7 +2,7 @@ pub mod Rows
 pub mod Tells
 pub mod Both
 pub mod Passing
--- What stands below is passed on.
-pub use Rattle.actor_run.specs.volap_cell
-pub use Rattle.actor_run.specs.seat_steps
-pub use Rattle.actor_run
+-- What is passed on of the libraries below, module by module.
+pub mod volap_cell
+pub mod seat_steps
+pub mod actor_run

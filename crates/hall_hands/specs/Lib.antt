@@ -1,8 +1,9 @@
 pub mod Rounds
 pub mod Hands
--- What stands below is passed on.
-pub use Rattle.hand_steps.specs.core_told
-pub use Rattle.hand_steps.specs.seat_steps
-pub use Rattle.hand_steps.specs.session_steps
-pub use Rattle.actor_run.specs.whole_steps
-pub use Rattle.actor_run
+-- What is passed on of the libraries below, module by module.
+pub mod volap_cell
+pub mod core_told
+pub mod seat_steps
+pub mod session_steps
+pub mod whole_steps
+pub mod actor_run

@@ -1,7 +1,7 @@
 pub mod Hands
--- What stands below is passed on.
-pub use Rattle.session_steps.specs.volap_cell
-pub use Rattle.session_steps.specs.core_told
-pub use Rattle.session_steps.specs.volap_turns
-pub use Rattle.session_steps.specs.seat_steps
-pub use Rattle.session_steps
+-- What is passed on of the libraries below, module by module.
+pub mod volap_cell
+pub mod core_told
+pub mod volap_turns
+pub mod seat_steps
+pub mod session_steps

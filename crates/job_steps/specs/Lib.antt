@@ -2,8 +2,11 @@ pub mod Jobs
 pub mod Dues
 pub mod Turns
 pub mod Reuses
--- What stands below is passed on.
-pub use Rattle.seat_steps.specs.volap_cell
-pub use Rattle.seat_steps.specs.core_image
-pub use Rattle.seat_steps.specs.volap_turns
-pub use Rattle.seat_steps
+-- What is passed on of the libraries below, module by module.
+pub mod volap_cell
+pub mod core_tree
+pub mod core_image
+pub mod core_steps
+pub mod volap_turns
+pub mod core_due
+pub mod seat_steps

@@ -1,8 +1,8 @@
 pub mod Index
 pub mod Names
 pub mod Text
--- What stands below is passed on.
-pub use Rattle.olap_top.specs.volap_cell
-pub use Rattle.olap_top.specs.script_roles
-pub use Rattle.olap_top.specs.seeded_run
-pub use Rattle.olap_top
+-- What is passed on of the libraries below, module by module.
+pub mod volap_cell
+pub mod script_roles
+pub mod seeded_run
+pub mod olap_top

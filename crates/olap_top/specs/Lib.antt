@@ -12,8 +12,7 @@ pub mod Threads
 pub mod Tells
 pub mod Standing
 pub mod Left
--- What stands below is passed on.
-pub use Rattle.core_laws.specs.volap_cell
-pub use Rattle.seeded_run.specs.script_roles
-pub use Rattle.seeded_run
-pub use Rattle.threaded_run
+-- What is passed on of the libraries below, module by module.
+pub mod volap_cell
+pub mod script_roles
+pub mod seeded_run

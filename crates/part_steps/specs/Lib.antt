@@ -4,14 +4,15 @@ pub mod Heads
 pub mod Parts
 pub mod Reads
 pub mod Rows
--- What stands below is passed on.
-pub use Rattle.link_descent
-pub use Rattle.seat_steps.specs.volap_cell
-pub use Rattle.seat_steps.specs.core_tree
-pub use Rattle.seat_steps.specs.core_image
-pub use Rattle.seat_steps.specs.core_shard
-pub use Rattle.seat_steps.specs.core_steps
-pub use Rattle.seat_steps.specs.core_told
-pub use Rattle.seat_steps.specs.volap_turns
-pub use Rattle.seat_steps.specs.core_due
-pub use Rattle.seat_steps
+-- What is passed on of the libraries below, module by module.
+pub mod link_descent
+pub mod volap_cell
+pub mod core_tree
+pub mod core_image
+pub mod core_shard
+pub mod core_admin
+pub mod core_steps
+pub mod core_told
+pub mod volap_turns
+pub mod core_due
+pub mod seat_steps

@@ -6,7 +6,7 @@ use Rattle.row_ledger.specs.declared.settings.Use.{Use}
 use Rattle.hall_calls.proofs.Both.{none-out, role-taken}
 use Rattle.hall_hands.specs.actor_run.specs.{Halls.{HasOpened, IsHallFor, hall_setting, own_role}, Passes.{AreAllIn, HasGiven, HasTaken, PassValue, PassesValue}}
 use Rattle.hall_hands.specs.seat_steps.specs.declared.floor.Floor.{Floor}
-use Rattle.hall_hands.specs.actor_run.specs.volap_cell.specs.{Numbering.{IsRoleOf, IsSetting}, Setting.Setting, declared.role.Role.Role, declared.role.Role.TheVariants.{Admin, Hand, Puller, Session}}
+use Rattle.hall_hands.specs.volap_cell.specs.{Numbering.{IsRoleOf, IsSetting}, Setting.Setting, declared.role.Role.Role, declared.role.Role.TheVariants.{Admin, Hand, Puller, Session}}
 use Rattle.phase_tests.specs.Pairs.{IsPaired, IsThere, pair}
 
 abbrev settings : Use

@@ -2,8 +2,8 @@
 use Rattle.std.specs.Prelude.{ℕ, ◌≡◌, ◌<◌, ⊤, List, [], ◌∷◌, length, Some, slice_get}
 use Rattle.hall_hands.specs.actor_run.specs.Passes.{AreAllIn, IsPassesOf, PassesValue}
 use Rattle.hall_hands.specs.seat_steps.specs.declared.floor.Floor.{Floor}
-use Rattle.hall_hands.specs.actor_run.specs.volap_cell.specs.declared.role.Role.{Role}
-use Rattle.hall_hands.specs.actor_run.specs.volap_cell.specs.declared.role.Role.TheVariants.{Admin, Hand, Puller, Session}
+use Rattle.hall_hands.specs.volap_cell.specs.declared.role.Role.{Role}
+use Rattle.hall_hands.specs.volap_cell.specs.declared.role.Role.TheVariants.{Admin, Hand, Puller, Session}
 
 -- the other role's server or worker is there, of two servers and one worker
 abbrev pub IsThere : Role → Type 0

@@ -6,7 +6,7 @@ ghost use Rattle.hall_calls.specs.Passing.{IsBack};
 ghost use Rattle.hall_hands.specs.actor_run.specs.Passes.{IsPassOf};
 ghost use Rattle.hall_hands.specs.actor_run.specs.Sessions.{IsSessionWith};
 ghost use Rattle.hall_hands.specs.Hands.{IsHandRole};
-ghost use Rattle.hall_hands.specs.actor_run.specs.volap_cell.specs.declared.role.Role.TheVariants.{Session as IsSessionOf};
+ghost use Rattle.hall_hands.specs.volap_cell.specs.declared.role.Role.TheVariants.{Session as IsSessionOf};
 
 use crate::halls::{all_rows, opened, pass, row};
 use crate::meets::ByHand;

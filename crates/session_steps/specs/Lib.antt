@@ -3,14 +3,14 @@ pub mod Books
 pub mod Coming
 pub mod Commands
 pub mod Visits
--- What stands below is passed on.
-pub use Rattle.part_steps.specs.volap_cell
-pub use Rattle.part_steps.specs.core_tree
-pub use Rattle.part_steps.specs.core_image
-pub use Rattle.part_steps.specs.core_shard
-pub use Rattle.part_steps.specs.core_steps
-pub use Rattle.part_steps.specs.core_told
-pub use Rattle.part_steps.specs.volap_turns
-pub use Rattle.part_steps.specs.core_due
-pub use Rattle.part_steps.specs.seat_steps
-pub use Rattle.part_steps
+-- What is passed on of the libraries below, module by module.
+pub mod volap_cell
+pub mod core_image
+pub mod core_shard
+pub mod core_admin
+pub mod core_steps
+pub mod core_told
+pub mod volap_turns
+pub mod core_due
+pub mod seat_steps
+pub mod part_steps

@@ -1,6 +1,6 @@
 pub mod Streams
 pub mod Jobs
 pub mod Phases
--- What stands below is passed on.
-pub use Rattle.hall_hands.specs.actor_run
-pub use Rattle.hall_hands.specs.seat_steps
+-- What is passed on of the libraries below, module by module.
+pub mod seat_steps
+pub mod actor_run

@@ -5,7 +5,7 @@ use Rattle.std.specs.Prelude.{◌&&◌, ⊤, OnErr, OnOk}
 use mathlib.Core.Logic.{dite}
 use mathlib.Core.Option.{none, some}
 use native.Mathlib.Decide.{ℕ_discrete}
-use Rattle.call_steps.specs.seat_steps.specs.core_admin.proofs.Collecting.FrozenGates.{phase-gate}
+use Rattle.call_steps.specs.core_admin.proofs.Collecting.FrozenGates.{phase-gate}
 use Rattle.call_steps.specs.core_due.proofs.{Owned.lend-gate, Released.released-is}
 use Rattle.call_steps.specs.core_due.specs.{Ready.IsPrepared, Reuses.is_released}
 use Rattle.call_steps.specs.core_steps.specs.{Places.{numbers, values}, Reuses.{reuse_asks, reuse_places}, declared.reuses.ReuseStep.ReuseStep}

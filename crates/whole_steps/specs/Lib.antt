@@ -6,14 +6,16 @@ pub mod Done
 pub mod Settles
 pub mod Copies
 pub mod Reuses
--- What stands below is passed on.
-pub use Rattle.core_pages.specs.link_descent
-pub use Rattle.core_pages.specs.volap_cell
-pub use Rattle.call_steps.specs.core_tree
-pub use Rattle.core_pages.specs.core_image
-pub use Rattle.call_steps.specs.volap_turns
-pub use Rattle.call_steps.specs.seat_steps
-pub use Rattle.call_steps.specs.part_steps
-pub use Rattle.call_steps.specs.session_steps
-pub use Rattle.job_steps
-pub use Rattle.call_steps
+-- What is passed on of the libraries below, module by module.
+pub mod shard_store
+pub mod link_descent
+pub mod volap_cell
+pub mod core_tree
+pub mod core_image
+pub mod volap_turns
+pub mod core_due
+pub mod seat_steps
+pub mod part_steps
+pub mod job_steps
+pub mod session_steps
+pub mod call_steps

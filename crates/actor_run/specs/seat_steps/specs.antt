@@ -1,0 +1,1 @@
+pub use Rattle.whole_steps.specs.seat_steps.specs.declared

@@ -1,0 +1,1 @@
+pub use Rattle.whole_steps.specs.session_steps.specs.Begins

@@ -1,0 +1,1 @@
+pub use Rattle.session_steps.specs.core_admin.proofs.Collecting

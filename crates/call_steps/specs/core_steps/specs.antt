@@ -1,0 +1,6 @@
+pub use Rattle.session_steps.specs.core_steps.specs.Books
+pub use Rattle.session_steps.specs.core_steps.specs.Notes
+pub use Rattle.session_steps.specs.core_steps.specs.Places
+pub use Rattle.session_steps.specs.core_steps.specs.Reuses
+pub use Rattle.session_steps.specs.core_steps.specs.Steps
+pub use Rattle.session_steps.specs.core_steps.specs.declared

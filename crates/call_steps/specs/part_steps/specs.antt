@@ -1,0 +1,3 @@
+pub use Rattle.session_steps.specs.part_steps.specs.Goings
+pub use Rattle.session_steps.specs.part_steps.specs.Parts
+pub use Rattle.session_steps.specs.part_steps.specs.Reads

@@ -1,0 +1,7 @@
+pub use Rattle.session_steps.specs.seat_steps.proofs.Around
+pub use Rattle.session_steps.specs.seat_steps.proofs.HeldLedger
+pub use Rattle.session_steps.specs.seat_steps.proofs.Left
+pub use Rattle.session_steps.specs.seat_steps.proofs.Ranks
+pub use Rattle.session_steps.specs.seat_steps.proofs.Since
+pub use Rattle.session_steps.specs.seat_steps.proofs.Told
+pub use Rattle.session_steps.specs.seat_steps.proofs.WithLedger

@@ -1,0 +1,3 @@
+pub use Rattle.session_steps.proofs.Grown
+pub use Rattle.session_steps.proofs.Heard
+pub use Rattle.session_steps.proofs.Servers

@@ -1,0 +1,3 @@
+pub use Rattle.actor_run.specs.Halls
+pub use Rattle.actor_run.specs.Passes
+pub use Rattle.actor_run.specs.Wholes

@@ -1,0 +1,1 @@
+pub use Rattle.actor_run.specs.seat_steps.specs.declared

@@ -1,0 +1,1 @@
+pub use Rattle.actor_run.specs.volap_cell.specs.declared

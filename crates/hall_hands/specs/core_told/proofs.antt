@@ -1,0 +1,1 @@
+pub use Rattle.hand_steps.specs.core_told.proofs.Pulled

@@ -1,0 +1,1 @@
+pub use Rattle.hand_steps.specs.seat_steps.specs.declared

@@ -1,0 +1,1 @@
+pub use Rattle.hand_steps.specs.session_steps.proofs.Grown

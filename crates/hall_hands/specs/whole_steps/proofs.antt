@@ -1,0 +1,1 @@
+pub use Rattle.actor_run.specs.whole_steps.proofs.Telling

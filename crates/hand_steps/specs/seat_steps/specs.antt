@@ -1,0 +1,2 @@
+pub use Rattle.session_steps.specs.seat_steps.specs.Floors
+pub use Rattle.session_steps.specs.seat_steps.specs.declared

@@ -1,0 +1,2 @@
+pub use Rattle.session_steps.proofs.Grown
+pub use Rattle.session_steps.proofs.Heard

@@ -1,0 +1,1 @@
+pub use Rattle.seat_steps.specs.core_image.specs.Told

@@ -1,0 +1,2 @@
+pub use Rattle.seat_steps.proofs.Around
+pub use Rattle.seat_steps.proofs.Since

@@ -1,0 +1,5 @@
+pub use Rattle.seat_steps.specs.volap_turns.specs.Law
+pub use Rattle.seat_steps.specs.volap_turns.specs.Rule
+pub use Rattle.seat_steps.specs.volap_turns.specs.Seats
+pub use Rattle.seat_steps.specs.volap_turns.specs.Wholes
+pub use Rattle.seat_steps.specs.volap_turns.specs.Worlds

@@ -1,0 +1,1 @@
+pub use Rattle.olap_top.proofs.PhaseSteps

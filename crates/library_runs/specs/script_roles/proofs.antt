@@ -1,0 +1,1 @@
+pub use Rattle.olap_top.specs.script_roles.proofs.Roles

@@ -1,0 +1,1 @@
+pub use Rattle.seeded_run.specs.script_roles.proofs.Roles

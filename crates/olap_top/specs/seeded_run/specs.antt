@@ -1,0 +1,3 @@
+pub use Rattle.seeded_run.specs.Kept
+pub use Rattle.seeded_run.specs.Order
+pub use Rattle.seeded_run.specs.Phase

@@ -1,0 +1,1 @@
+pub use Rattle.core_laws.specs.volap_cell.proofs.Histories

@@ -1,0 +1,10 @@
+pub use Rattle.seat_steps.specs.core_due.specs.Due
+pub use Rattle.seat_steps.specs.core_due.specs.Laws
+pub use Rattle.seat_steps.specs.core_due.specs.Look
+pub use Rattle.seat_steps.specs.core_due.specs.Ready
+pub use Rattle.seat_steps.specs.core_due.specs.Reuses
+pub use Rattle.seat_steps.specs.core_due.specs.Wants
+pub use Rattle.seat_steps.specs.core_due.specs.WorkLaws
+pub use Rattle.seat_steps.specs.core_due.specs.Works
+pub use Rattle.seat_steps.specs.core_due.specs.WorksReady
+pub use Rattle.seat_steps.specs.core_due.specs.declared

@@ -1,0 +1,10 @@
+pub use Rattle.seat_steps.specs.core_steps.specs.Begins
+pub use Rattle.seat_steps.specs.core_steps.specs.Books
+pub use Rattle.seat_steps.specs.core_steps.specs.Counts
+pub use Rattle.seat_steps.specs.core_steps.specs.Notes
+pub use Rattle.seat_steps.specs.core_steps.specs.Parts
+pub use Rattle.seat_steps.specs.core_steps.specs.Places
+pub use Rattle.seat_steps.specs.core_steps.specs.Reuses
+pub use Rattle.seat_steps.specs.core_steps.specs.Steps
+pub use Rattle.seat_steps.specs.core_steps.specs.Trees
+pub use Rattle.seat_steps.specs.core_steps.specs.declared

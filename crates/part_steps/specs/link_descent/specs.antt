@@ -1,0 +1,1 @@
+pub use Rattle.link_descent.specs.Visit

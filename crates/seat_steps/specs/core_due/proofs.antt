@@ -1,0 +1,16 @@
+pub use Rattle.core_due.proofs.AtParts
+pub use Rattle.core_due.proofs.BooksHeld
+pub use Rattle.core_due.proofs.Descents
+pub use Rattle.core_due.proofs.EndsAsked
+pub use Rattle.core_due.proofs.Entrances
+pub use Rattle.core_due.proofs.Gates
+pub use Rattle.core_due.proofs.Holding
+pub use Rattle.core_due.proofs.InStates
+pub use Rattle.core_due.proofs.JobCells
+pub use Rattle.core_due.proofs.JobsAsked
+pub use Rattle.core_due.proofs.LastItems
+pub use Rattle.core_due.proofs.Owned
+pub use Rattle.core_due.proofs.PartsReady
+pub use Rattle.core_due.proofs.PullsAsked
+pub use Rattle.core_due.proofs.Released
+pub use Rattle.core_due.proofs.StepsPrepared

@@ -1,0 +1,15 @@
+pub use Rattle.core_due.specs.Due
+pub use Rattle.core_due.specs.Laws
+pub use Rattle.core_due.specs.Look
+pub use Rattle.core_due.specs.Parts
+pub use Rattle.core_due.specs.Ready
+pub use Rattle.core_due.specs.ReuseLaws
+pub use Rattle.core_due.specs.Reuses
+pub use Rattle.core_due.specs.Rows
+pub use Rattle.core_due.specs.Spares
+pub use Rattle.core_due.specs.Splits
+pub use Rattle.core_due.specs.Wants
+pub use Rattle.core_due.specs.WorkLaws
+pub use Rattle.core_due.specs.Works
+pub use Rattle.core_due.specs.WorksReady
+pub use Rattle.core_due.specs.declared

@@ -1,0 +1,1 @@
+pub use Rattle.core_due.specs.core_shard.proofs.FinishReady

@@ -1,0 +1,12 @@
+pub use Rattle.core_due.specs.core_steps.specs.Begins
+pub use Rattle.core_due.specs.core_steps.specs.Books
+pub use Rattle.core_due.specs.core_steps.specs.Counts
+pub use Rattle.core_due.specs.core_steps.specs.Jobs
+pub use Rattle.core_due.specs.core_steps.specs.Notes
+pub use Rattle.core_due.specs.core_steps.specs.Parts
+pub use Rattle.core_due.specs.core_steps.specs.Places
+pub use Rattle.core_due.specs.core_steps.specs.Reuses
+pub use Rattle.core_due.specs.core_steps.specs.Rows
+pub use Rattle.core_due.specs.core_steps.specs.Steps
+pub use Rattle.core_due.specs.core_steps.specs.Trees
+pub use Rattle.core_due.specs.core_steps.specs.declared

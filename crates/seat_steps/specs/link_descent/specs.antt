@@ -1,0 +1,1 @@
+pub use Rattle.core_due.specs.link_descent.specs.declared

@@ -1,0 +1,1 @@
+pub use Rattle.part_steps.specs.core_admin.proofs.Collecting

@@ -1,0 +1,1 @@
+pub use Rattle.part_steps.proofs.Keeping

@@ -1,0 +1,3 @@
+pub use Rattle.part_steps.specs.Goings
+pub use Rattle.part_steps.specs.Parts
+pub use Rattle.part_steps.specs.Reads

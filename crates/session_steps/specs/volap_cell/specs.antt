@@ -1,0 +1,15 @@
+pub use Rattle.part_steps.specs.volap_cell.specs.Cells
+pub use Rattle.part_steps.specs.volap_cell.specs.Commands
+pub use Rattle.part_steps.specs.volap_cell.specs.Errands
+pub use Rattle.part_steps.specs.volap_cell.specs.ImageKinds
+pub use Rattle.part_steps.specs.volap_cell.specs.Kinds
+pub use Rattle.part_steps.specs.volap_cell.specs.Numbering
+pub use Rattle.part_steps.specs.volap_cell.specs.Planning
+pub use Rattle.part_steps.specs.volap_cell.specs.Setting
+pub use Rattle.part_steps.specs.volap_cell.specs.ShardKinds
+pub use Rattle.part_steps.specs.volap_cell.specs.Sights
+pub use Rattle.part_steps.specs.volap_cell.specs.Steps
+pub use Rattle.part_steps.specs.volap_cell.specs.Values
+pub use Rattle.part_steps.specs.volap_cell.specs.Working
+pub use Rattle.part_steps.specs.volap_cell.specs.World
+pub use Rattle.part_steps.specs.volap_cell.specs.declared

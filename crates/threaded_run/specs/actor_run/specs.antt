@@ -1,0 +1,3 @@
+pub use Rattle.hall_admin.specs.actor_run.specs.Halls
+pub use Rattle.hall_admin.specs.actor_run.specs.Passes
+pub use Rattle.hall_admin.specs.actor_run.specs.Wholes

@@ -1,0 +1,1 @@
+pub use Rattle.hall_admin.specs.seat_steps.specs.declared

@@ -1,0 +1,1 @@
+pub use Rattle.job_steps.specs.core_due.proofs.InStates

@@ -1,0 +1,1 @@
+pub use Rattle.core_pages.specs.core_image.specs.Told

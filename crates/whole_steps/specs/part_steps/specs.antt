@@ -1,0 +1,3 @@
+pub use Rattle.call_steps.specs.part_steps.specs.Goings
+pub use Rattle.call_steps.specs.part_steps.specs.Parts
+pub use Rattle.call_steps.specs.part_steps.specs.Reads

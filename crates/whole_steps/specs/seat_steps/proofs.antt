@@ -1,0 +1,1 @@
+pub use Rattle.job_steps.specs.seat_steps.proofs.Since

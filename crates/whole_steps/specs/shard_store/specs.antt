@@ -1,0 +1,1 @@
+pub use Rattle.core_pages.specs.shard_store.specs.declared

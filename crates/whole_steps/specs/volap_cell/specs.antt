@@ -1,0 +1,16 @@
+pub use Rattle.core_pages.specs.volap_cell.specs.Cells
+pub use Rattle.core_pages.specs.volap_cell.specs.Commands
+pub use Rattle.core_pages.specs.volap_cell.specs.Errands
+pub use Rattle.core_pages.specs.volap_cell.specs.Filling
+pub use Rattle.core_pages.specs.volap_cell.specs.ImageKinds
+pub use Rattle.core_pages.specs.volap_cell.specs.Numbering
+pub use Rattle.core_pages.specs.volap_cell.specs.Opening
+pub use Rattle.core_pages.specs.volap_cell.specs.Reusing
+pub use Rattle.core_pages.specs.volap_cell.specs.Setting
+pub use Rattle.core_pages.specs.volap_cell.specs.Sights
+pub use Rattle.core_pages.specs.volap_cell.specs.State
+pub use Rattle.core_pages.specs.volap_cell.specs.Steps
+pub use Rattle.core_pages.specs.volap_cell.specs.Values
+pub use Rattle.core_pages.specs.volap_cell.specs.World
+pub use Rattle.core_pages.specs.volap_cell.specs.contracts
+pub use Rattle.core_pages.specs.volap_cell.specs.declared
