@@ -27,6 +27,19 @@ pub use whole::TreeFault;
 pub use whole_steps::ReadsHistory;
 pub use whole_steps::part_steps::Steps;
 
-// What stands below is passed on.
-pub use whole_steps;
-pub use whole_steps::{call_steps, session_steps, volap_cell};
+// What is passed on of the libraries below.
+pub mod volap_cell {
+    pub use whole_steps::volap_cell::{Cell, Role, RoleList, State};
+}
+
+pub mod session_steps {
+    pub use whole_steps::session_steps::note_refused;
+}
+
+pub mod call_steps {
+    pub use whole_steps::call_steps::{Synced, begin_call, end_call, leave_action, sync};
+}
+
+pub mod whole_steps {
+    pub use whole_steps::{Paged, Settled};
+}

@@ -10,3 +10,8 @@ mod reuses;
 
 pub use admin::Admin;
 pub use puller::{Puller, Synced};
+
+// What is passed on of the libraries below.
+pub mod actor_run {
+    pub use actor_run::{Hall, Passes, ReadsHistory};
+}

@@ -9,6 +9,11 @@ mod work;
 pub use two::count_on_two_threads;
 pub use work::{Places, Told, insert_and_ask};
 
-// What stands below is passed on.
-pub use actor_run;
-pub use actor_run::volap_cell;
+// What is passed on of the libraries below.
+pub mod volap_cell {
+    pub use actor_run::volap_cell::{Cell, Role, RoleList, State};
+}
+
+pub mod actor_run {
+    pub use actor_run::{Asked, Hall, Inserted, Pass, Passes, Session, Steps};
+}

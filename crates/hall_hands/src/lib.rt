@@ -6,7 +6,19 @@ mod rounds;
 
 pub use hand::Hand;
 
-// What stands below is passed on.
-pub use actor_run;
-pub use actor_run::whole_steps;
-pub use hand_steps::seat_steps;
+// What is passed on of the libraries below.
+pub mod volap_cell {
+    pub use hand_steps::volap_cell::{Cell, Role, RoleList, State};
+}
+
+pub mod seat_steps {
+    pub use hand_steps::seat_steps::Player;
+}
+
+pub mod whole_steps {
+    pub use actor_run::whole_steps::{Paged, Settled};
+}
+
+pub mod actor_run {
+    pub use actor_run::{Asked, Hall, Inserted, Pass, Passes, Session, Steps, TreeFault};
+}

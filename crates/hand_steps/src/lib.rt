@@ -7,5 +7,11 @@ mod serves;
 pub use hands::Found;
 pub use serves::serve_desk;
 
-// What stands below is passed on.
-pub use session_steps::{seat_steps, volap_cell};
+// What is passed on of the libraries below.
+pub mod volap_cell {
+    pub use session_steps::volap_cell::{Cell, Role, RoleList, State};
+}
+
+pub mod seat_steps {
+    pub use session_steps::seat_steps::Player;
+}

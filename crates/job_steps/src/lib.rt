@@ -33,5 +33,11 @@ pub use jobs::go_on_with_job;
 pub use reuses::reuse_cell;
 pub use steps::JobDid;
 
-// What stands below is passed on.
-pub use seat_steps;
+// What is passed on of the libraries below.
+pub mod volap_turns {
+    pub use seat_steps::volap_turns::{Volap, close, open, opening_is_whole};
+}
+
+pub mod seat_steps {
+    pub use seat_steps::{Floor, Player};
+}

@@ -10,6 +10,17 @@ pub use index::Index;
 pub use names::{RowFault, row, under};
 pub use text::{Answered, run_text};
 
-// What stands below is passed on.
-pub use olap_top;
-pub use olap_top::{seeded_run, volap_cell};
+// What is passed on of the libraries below.
+pub mod volap_cell {
+    pub use olap_top::volap_cell::{
+        Actor, Boxes, Cell, Kind, Role, RoleList, State, lift_one, open, put_one,
+    };
+}
+
+pub mod seeded_run {
+    pub use olap_top::seeded_run::{Move, Schedule, open_core, run_by_hand, run_phase};
+}
+
+pub mod olap_top {
+    pub use olap_top::{Outcome, Status, olap};
+}

@@ -15,7 +15,13 @@ pub use outcome::{Outcome, Status};
 pub use top::olap;
 pub use wanted::Wanted;
 
-// What stands below is passed on.
-pub use core_laws::volap_cell;
-pub use seeded_run;
-pub use threaded_run;
+// What is passed on of the libraries below.
+pub mod volap_cell {
+    pub use core_laws::volap_cell::{
+        Actor, Boxes, Cell, Kind, Role, RoleList, State, lift_one, open, put_one,
+    };
+}
+
+pub mod seeded_run {
+    pub use seeded_run::{Move, Schedule, open_core, run_by_hand, run_phase};
+}

@@ -10,6 +10,37 @@ mod steps;
 pub use parts::{Did, go_on_at_part};
 pub use steps::Steps;
 
-// What stands below is passed on.
-pub use seat_steps;
-pub use seat_steps::{core_due, core_steps, link_descent, volap_cell, volap_turns};
+// What is passed on of the libraries below.
+pub mod link_descent {
+    pub use link_descent::MOST_NOTED;
+}
+
+pub mod volap_cell {
+    pub use seat_steps::volap_cell::{
+        Actor, Cell, Command, Errand, Role, RoleList, State, Task, Work, there,
+    };
+}
+
+pub mod core_steps {
+    pub use seat_steps::core_steps::{
+        BeginStep, BookStep, CellStep, CountStep, NoteStep, PartStep, ReuseStep, TreeStep,
+        desk_place, image_place, ledger_place, registry_place, stock_place,
+    };
+}
+
+pub mod volap_turns {
+    pub use seat_steps::volap_turns::{Volap, step};
+}
+
+pub mod core_due {
+    pub use seat_steps::core_due::{
+        WorkDue, is_spent, last_noted, map_at, parts_due, parts_prepared, tell_bytes,
+        works_can_be_made,
+    };
+}
+
+pub mod seat_steps {
+    pub use seat_steps::{
+        Floor, LEDGER, Player, give_all, make, make_booked, take, take_first, try_take,
+    };
+}

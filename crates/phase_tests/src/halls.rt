@@ -5,7 +5,7 @@ ghost use Rattle.hall_hands.specs.actor_run.specs.Passes.{HasTaken, IsPassOf, Is
 ghost use Rattle.phase_tests.specs.Pairs.{IsPaired, IsThere, pair};
 
 use dim_hierarchy::{Hierarchy, Name, NameFilter, NamePick, RowNames};
-use hall_hands::actor_run::volap_cell::{Role, RoleList};
+use hall_hands::volap_cell::{Role, RoleList};
 use hall_hands::actor_run::{Hall, Pass, Passes};
 use row_ledger::Use;
 use std::alloc::{AllocError, Global};

@@ -12,7 +12,7 @@ use crate::halls::{all_rows, opened, pass, row};
 use crate::meets::ByHand;
 use dim_hierarchy::{NameFilter, RowNames};
 use hall_hands::Hand;
-use hall_hands::actor_run::volap_cell::{Role, State};
+use hall_hands::volap_cell::{Role, State};
 use hall_hands::actor_run::{Asked, Hall, Pass, Session, Steps};
 use hall_hands::seat_steps::Player;
 use std::alloc::Global;

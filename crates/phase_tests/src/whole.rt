@@ -7,7 +7,7 @@ use crate::halls::{opened, pass, row};
 use crate::runs::events_of;
 use crate::told::told;
 use dim_hierarchy::RowNames;
-use hall_hands::actor_run::volap_cell::{Role, State};
+use hall_hands::volap_cell::{Role, State};
 use hall_hands::actor_run::{Hall, Inserted, Passes, Session, TreeFault};
 use row_ledger::{History, Page};
 use std::alloc::{AllocError, Global};

@@ -14,7 +14,32 @@ pub use looks::{Lead, is_leaf_at, lead_at, may_enter_at};
 pub use made::make;
 pub use takes::{give_all, take, try_take};
 
-// What stands below is passed on.
-pub use core_due;
-pub use core_due::{core_steps, link_descent, shard_store, volap_cell};
-pub use volap_turns;
+// What is passed on of the libraries below.
+pub mod shard_store {
+    pub use core_due::shard_store::{Phase, Queue};
+}
+
+pub mod volap_cell {
+    pub use core_due::volap_cell::{
+        Actor, Balance, Building, Cell, Command, Errand, Role, RoleList, Stage, State, Task, Way,
+        Work, there,
+    };
+}
+
+pub mod core_steps {
+    pub use core_due::core_steps::{
+        BeginStep, BookStep, CellStep, CountStep, JobStep, NoteStep, PartStep, ReuseStep, RowStep,
+        TreeStep, desk_place, image_place, ledger_place, registry_place, stock_place,
+    };
+}
+
+pub mod volap_turns {
+    pub use volap_turns::{Volap, close, open, opening_is_whole, step};
+}
+
+pub mod core_due {
+    pub use core_due::{
+        WorkDue, desk_at, is_spent, last_noted, last_spare, last_two, map_at, next_of, parts_due,
+        parts_prepared, tell_bytes, works_can_be_made,
+    };
+}

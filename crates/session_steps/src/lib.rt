@@ -15,6 +15,32 @@ pub use commands::{End, Next, go_on_with_command};
 pub use hears::hear;
 pub use visits::{noted_by, reserve_notes, take_waiting, try_visit};
 
-// What stands below is passed on.
-pub use part_steps;
-pub use part_steps::{core_due, core_steps, seat_steps, volap_cell, volap_turns};
+// What is passed on of the libraries below.
+pub mod volap_cell {
+    pub use part_steps::volap_cell::{Actor, Cell, Role, RoleList, State, there};
+}
+
+pub mod core_steps {
+    pub use part_steps::core_steps::{
+        BookStep, CellStep, NoteStep, PartStep, ReuseStep, desk_place, image_place, ledger_place,
+        registry_place, stock_place,
+    };
+}
+
+pub mod volap_turns {
+    pub use part_steps::volap_turns::{Volap, step};
+}
+
+pub mod core_due {
+    pub use part_steps::core_due::{map_at, tell_bytes};
+}
+
+pub mod seat_steps {
+    pub use part_steps::seat_steps::{
+        Floor, LEDGER, Player, give_all, make, make_booked, take, take_first,
+    };
+}
+
+pub mod part_steps {
+    pub use part_steps::{Did, Steps, go_on_at_part};
+}

@@ -14,5 +14,7 @@ pub use opening::open;
 pub use phase::run_phase;
 pub use phases::run_together;
 
-// What stands below is passed on.
-pub use hall_hands::actor_run;
+// What is passed on of the libraries below.
+pub mod actor_run {
+    pub use hall_admin::actor_run::{Hall, Passes, ReadsHistory};
+}
