@@ -20,16 +20,20 @@ mod whole;
 pub use bell::Bell;
 pub use cursor::{Cursor, Visit};
 pub use hall::Hall;
+pub use part_steps::Steps;
 pub use passes::{Pass, Passes};
 pub use session::{Asked, Inserted, Session, Synced};
 pub use turn_table::Busy;
 pub use whole::TreeFault;
 pub use whole_steps::ReadsHistory;
-pub use whole_steps::part_steps::Steps;
 
 // What is passed on of the libraries below.
 pub mod volap_cell {
     pub use whole_steps::volap_cell::{Cell, Role, RoleList, State};
+}
+
+pub mod part_steps {
+    pub use whole_steps::part_steps::Steps;
 }
 
 pub mod session_steps {
@@ -41,5 +45,5 @@ pub mod call_steps {
 }
 
 pub mod whole_steps {
-    pub use whole_steps::{Paged, Settled};
+    pub use whole_steps::{Paged, ReadsHistory, Settled};
 }
