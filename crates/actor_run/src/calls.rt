@@ -18,10 +18,10 @@ use dim_hierarchy::{Coord, Filter, FilterFault, Measures, NameFilter, RowNames};
 use std::alloc::{AllocError, Global};
 use std::sync::Wait;
 use volap_io::Meet;
-use whole_steps::call_steps::Synced as Pulled;
-use whole_steps::part_steps::Steps;
-use whole_steps::seat_steps::{Floor, Player};
-use whole_steps::session_steps::{
+use whole_steps::of_call_steps::Synced as Pulled;
+use whole_steps::of_part_steps::Steps;
+use whole_steps::of_seat_steps::{Floor, Player};
+use whole_steps::of_session_steps::{
     Begun, End, begin_insert, begin_query, hear, note_refused, note_unknown,
 };
 
@@ -163,7 +163,7 @@ pub(crate) fn sync<R: Wait>(
     ensures does { HasDone floor.now (EndsSync result) server player.old player.new }
     ensures seen { seen.new ≡ length player.new.seat.view.seen }
 {
-    let answer = match whole_steps::call_steps::sync(rt, alloc, floor, player, server) {
+    let answer = match whole_steps::of_call_steps::sync(rt, alloc, floor, player, server) {
         Pulled::Ok(_) => Synced::Ok,
         Pulled::Failed(_) => Synced::NoMemory,
         Pulled::NotBegun => {

@@ -14,9 +14,9 @@ use std::snapshot::Snapshot;
 use std::sync::Wait;
 use turn_table::Busy;
 use volap_io::Quiet;
-use whole_steps::part_steps::Steps;
-use whole_steps::seat_steps::Player;
-use whole_steps::session_steps::{End, noted_by, reserve_notes, try_visit};
+use whole_steps::of_part_steps::Steps;
+use whole_steps::of_seat_steps::Player;
+use whole_steps::of_session_steps::{End, noted_by, reserve_notes, try_visit};
 
 /// What a try to visit came to.
 #[derive(Clone, Copy)]

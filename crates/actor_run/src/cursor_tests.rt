@@ -19,10 +19,10 @@ use std::sync::Wait;
 use std::test::Fail;
 use turn_table::Seat;
 use volap_io::Quiet;
-use whole_steps::seat_steps::Player;
-use whole_steps::session_steps::noted_by;
-use whole_steps::volap_cell::{Role, RoleList};
-use whole_steps::volap_turns::Volap;
+use whole_steps::of_seat_steps::Player;
+use whole_steps::of_session_steps::noted_by;
+use whole_steps::of_volap_cell::{Role, RoleList};
+use whole_steps::of_volap_turns::Volap;
 
 /// One dimension with two cities.
 fn two_cities(alloc: Global) -> Result<Hierarchy, Fail>

@@ -7,10 +7,10 @@ use crate::bell::Bell;
 use std::alloc::Global;
 use std::sync::Wait;
 use volap_io::Meet;
-use whole_steps::part_steps::{Did, Steps, go_on_at_part};
-use whole_steps::seat_steps::{Floor, Player};
-use whole_steps::session_steps::{End, Next, go_on_with_command};
-use whole_steps::volap_cell::{Actor, Command, Work};
+use whole_steps::of_part_steps::{Did, Steps, go_on_at_part};
+use whole_steps::of_seat_steps::{Floor, Player};
+use whole_steps::of_session_steps::{End, Next, go_on_with_command};
+use whole_steps::of_volap_cell::{Actor, Command, Work};
 
 /// The session goes on with its command until it ends: it makes the steps of its parts itself, and sleeps where its server's desk
 /// has the command of another session, or another actor is at the last part. What it does for parts of a query is counted.

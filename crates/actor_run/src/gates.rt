@@ -20,10 +20,10 @@ use dim_hierarchy::{Filter, NameFilter};
 use std::alloc::Global;
 use std::snapshot::Snapshot;
 use std::sync::Wait;
-use whole_steps::part_steps::{Steps, go_on_at_part};
-use whole_steps::seat_steps::{Floor, Player};
-use whole_steps::session_steps::take_waiting;
-use whole_steps::volap_cell::Task;
+use whole_steps::of_part_steps::{Steps, go_on_at_part};
+use whole_steps::of_seat_steps::{Floor, Player};
+use whole_steps::of_session_steps::take_waiting;
+use whole_steps::of_volap_cell::Task;
 
 /// The session begins a query with these picks by name, and goes on with it until it has read a gate, or no part of it waits. The
 /// answer is where it began, and its filter for contracts. Where the query can't begin, `seen` is then how many events the session

@@ -13,9 +13,9 @@ use row_ledger::Use;
 use std::alloc::{AllocError, Global};
 use std::marker::Model;
 use turn_table::{Seat, TurnTable};
-use whole_steps::seat_steps::Floor;
-use whole_steps::volap_cell::{Actor, Role, RoleList, State};
-use whole_steps::volap_turns::{Volap, close, open, opening_is_whole};
+use whole_steps::of_seat_steps::Floor;
+use whole_steps::of_volap_cell::{Actor, Role, RoleList, State};
+use whole_steps::of_volap_turns::{Volap, close, open, opening_is_whole};
 
 /// The cells of a core under turns, for as many threads as there are passes. Contracts see its dimensions, its settings and its table.
 #[derive(Drop)]
@@ -151,7 +151,7 @@ fn opened(
     open(
         alloc,
         h,
-        whole_steps::volap_cell::open(alloc, h, with, roles)?,
+        whole_steps::of_volap_cell::open(alloc, h, with, roles)?,
     )
 }
 

@@ -20,7 +20,7 @@ mod whole;
 pub use bell::Bell;
 pub use cursor::{Cursor, Visit};
 pub use hall::Hall;
-pub use part_steps::Steps;
+pub use of_part_steps::Steps;
 pub use passes::{Pass, Passes};
 pub use session::{Asked, Inserted, Session, Synced};
 pub use turn_table::Busy;
@@ -28,22 +28,22 @@ pub use whole::TreeFault;
 pub use whole_steps::ReadsHistory;
 
 // What is passed on of the libraries below.
-pub mod volap_cell {
-    pub use whole_steps::volap_cell::{Cell, Role, RoleList, State};
+pub mod of_volap_cell {
+    pub use whole_steps::of_volap_cell::{Cell, Role, RoleList, State};
 }
 
-pub mod part_steps {
-    pub use whole_steps::part_steps::Steps;
+pub mod of_part_steps {
+    pub use whole_steps::of_part_steps::Steps;
 }
 
-pub mod session_steps {
-    pub use whole_steps::session_steps::note_refused;
+pub mod of_session_steps {
+    pub use whole_steps::of_session_steps::note_refused;
 }
 
-pub mod call_steps {
-    pub use whole_steps::call_steps::{Synced, begin_call, end_call, leave_action, sync};
+pub mod of_call_steps {
+    pub use whole_steps::of_call_steps::{Synced, begin_call, end_call, leave_action, sync};
 }
 
-pub mod whole_steps {
+pub mod of_whole_steps {
     pub use whole_steps::{Paged, ReadsHistory, Settled};
 }

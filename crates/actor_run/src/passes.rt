@@ -8,9 +8,9 @@ use crate::hall::Hall;
 use std::marker::Model;
 use std::mem::{forget, replace};
 use turn_table::Seat;
-use whole_steps::seat_steps::Player;
-use whole_steps::volap_cell::Actor;
-use whole_steps::volap_turns::Volap;
+use whole_steps::of_seat_steps::Player;
+use whole_steps::of_volap_cell::Actor;
+use whole_steps::of_volap_turns::Volap;
 
 /// An actor of a hall, with nothing to do, and its seat, which holds no cell. Contracts see its table, its setting, its
 /// role, its number and the history that it has seen.

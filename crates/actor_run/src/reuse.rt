@@ -12,10 +12,10 @@ use crate::whole::{admin_among, own_number};
 use std::alloc::Global;
 use std::sync::Wait;
 use turn_table::Seat;
+use whole_steps::of_seat_steps::Floor;
+use whole_steps::of_volap_cell::Actor;
+use whole_steps::of_volap_turns::Volap;
 use whole_steps::reuse_all;
-use whole_steps::seat_steps::Floor;
-use whole_steps::volap_cell::Actor;
-use whole_steps::volap_turns::Volap;
 
 impl Hall {
     /// The cells of gates that are gone are used again, until no such gate is left. All passes are in. Takes no memory.

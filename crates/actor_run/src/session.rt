@@ -18,10 +18,10 @@ use std::marker::Model;
 use std::snapshot::Snapshot;
 use std::sync::Wait;
 use volap_io::Meet;
-use whole_steps::part_steps::Steps;
-use whole_steps::seat_steps::Player;
-use whole_steps::session_steps::{come, empty_purse, hear, leave};
-use whole_steps::volap_cell::Role;
+use whole_steps::of_part_steps::Steps;
+use whole_steps::of_seat_steps::Player;
+use whole_steps::of_session_steps::{come, empty_purse, hear, leave};
+use whole_steps::of_volap_cell::Role;
 
 /// How an insert ended.
 #[derive(Clone, Copy)]

@@ -9,7 +9,7 @@ use dim_hierarchy::{Hierarchy, Name};
 use row_ledger::Use;
 use std::alloc::{AllocError, Global};
 use std::test::Fail;
-use whole_steps::volap_cell::{Cell, Role, RoleList, State};
+use whole_steps::of_volap_cell::{Cell, Role, RoleList, State};
 
 /// One dimension, with no concept but the one of all.
 fn one_dimension(alloc: Global) -> Result<Hierarchy, AllocError>

@@ -18,9 +18,9 @@ use row_ledger::{Call, History, Page, Subject};
 use std::alloc::{AllocError, Global};
 use std::sync::Wait;
 use turn_table::Seat;
-use whole_steps::seat_steps::Floor;
-use whole_steps::volap_cell::{Actor, Role};
-use whole_steps::volap_turns::Volap;
+use whole_steps::of_seat_steps::Floor;
+use whole_steps::of_volap_cell::{Actor, Role};
+use whole_steps::of_volap_turns::Volap;
 use whole_steps::{
     Paged, ReadsHistory, Settled, call_barrier, call_page, call_settle, copy_history, lend_history,
 };

@@ -7,9 +7,9 @@ ghost use Rattle.session_steps.specs.seat_steps.specs.Floors.{Stands};
 ghost use Rattle.session_steps.specs.volap_cell.specs.ImageKinds.{asks_registry};
 
 use row_ledger::{Call, Class, Subject};
-use session_steps::core_steps::{NoteStep, registry_place};
-use session_steps::seat_steps::{Floor, Player, make_booked, take_first};
-use session_steps::volap_cell::there;
+use session_steps::of_core_steps::{NoteStep, registry_place};
+use session_steps::of_seat_steps::{Floor, Player, make_booked, take_first};
+use session_steps::of_volap_cell::there;
 use std::alloc::{AllocError, Global};
 use std::sync::Wait;
 

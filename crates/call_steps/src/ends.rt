@@ -3,10 +3,10 @@ ghost use Rattle.call_steps.specs.Calls.{CanEndCall, CanLeaveAction, HasEndedCal
 ghost use Rattle.session_steps.specs.seat_steps.specs.Floors.{Stands};
 
 use row_ledger::How;
-use session_steps::core_due::tell_bytes;
-use session_steps::core_steps::NoteStep;
-use session_steps::seat_steps::{Floor, Player, make_booked};
-use session_steps::volap_cell::there;
+use session_steps::of_core_due::tell_bytes;
+use session_steps::of_core_steps::NoteStep;
+use session_steps::of_seat_steps::{Floor, Player, make_booked};
+use session_steps::of_volap_cell::there;
 use std::alloc::Global;
 use std::sync::Wait;
 

@@ -35,30 +35,30 @@ pub use pulls::pull;
 pub use syncs::{Synced, sync};
 
 // What is passed on of the libraries below.
-pub mod core_steps {
-    pub use session_steps::core_steps::{
+pub mod of_core_steps {
+    pub use session_steps::of_core_steps::{
         BookStep, CellStep, NoteStep, ReuseStep, image_place, ledger_place, registry_place,
         stock_place,
     };
 }
 
-pub mod volap_turns {
-    pub use session_steps::volap_turns::{Volap, step};
+pub mod of_volap_turns {
+    pub use session_steps::of_volap_turns::{Volap, step};
 }
 
-pub mod core_due {
-    pub use session_steps::core_due::{map_at, tell_bytes};
+pub mod of_core_due {
+    pub use session_steps::of_core_due::{map_at, tell_bytes};
 }
 
-pub mod seat_steps {
-    pub use session_steps::seat_steps::{Floor, LEDGER};
+pub mod of_seat_steps {
+    pub use session_steps::of_seat_steps::{Floor, LEDGER};
 }
 
-pub mod part_steps {
-    pub use session_steps::part_steps::{Did, Steps, go_on_at_part};
+pub mod of_part_steps {
+    pub use session_steps::of_part_steps::{Did, Steps, go_on_at_part};
 }
 
-pub mod session_steps {
+pub mod of_session_steps {
     pub use session_steps::{
         Begun, End, Next, begin_insert, begin_query, come, empty_purse, go_on_with_command, hear,
         leave, note_refused, note_unknown, noted_by, reserve_notes, take_waiting, try_visit,

@@ -8,10 +8,10 @@ ghost use Rattle.session_steps.specs.volap_cell.specs.Setting.{image_cell, regis
 ghost use Rattle.session_steps.specs.volap_cell.specs.Values.{actor_of};
 
 use crate::calls::REGISTRY;
-use session_steps::core_due::tell_bytes;
-use session_steps::core_steps::{BookStep, image_place, registry_place};
-use session_steps::seat_steps::{Floor, Player, make_booked, take, take_first};
-use session_steps::volap_cell::there;
+use session_steps::of_core_due::tell_bytes;
+use session_steps::of_core_steps::{BookStep, image_place, registry_place};
+use session_steps::of_seat_steps::{Floor, Player, make_booked, take, take_first};
+use session_steps::of_volap_cell::there;
 use std::alloc::{AllocError, Global};
 use std::sync::Wait;
 

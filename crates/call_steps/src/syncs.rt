@@ -10,7 +10,7 @@ use crate::calls::begin_call;
 use crate::ends::end_call;
 use crate::pulls::pull;
 use row_ledger::{Call, How};
-use session_steps::seat_steps::{Floor, Player};
+use session_steps::of_seat_steps::{Floor, Player};
 use std::alloc::Global;
 use std::sync::Wait;
 

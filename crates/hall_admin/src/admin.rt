@@ -9,7 +9,7 @@ ghost use Rattle.job_steps.specs.volap_cell.specs.declared.role.Role.TheVariants
 
 use crate::calls::make_call;
 use actor_run::{Hall, Pass};
-use job_steps::seat_steps::Player;
+use job_steps::of_seat_steps::Player;
 use row_ledger::{Call, How};
 use std::alloc::{AllocError, Global};
 use std::marker::Model;

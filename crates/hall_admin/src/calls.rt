@@ -11,9 +11,9 @@ ghost use Rattle.job_steps.specs.volap_cell.specs.declared.role.Role.TheVariants
 use crate::driving::drive;
 use crate::puller::Synced;
 use crate::reuses::reuse_released;
-use actor_run::call_steps::begin_call;
-use actor_run::session_steps::note_refused;
-use job_steps::seat_steps::{Floor, Player};
+use actor_run::of_call_steps::begin_call;
+use actor_run::of_session_steps::note_refused;
+use job_steps::of_seat_steps::{Floor, Player};
 use row_ledger::{Call, How};
 use std::alloc::{AllocError, Global};
 use std::sync::Wait;
@@ -54,10 +54,10 @@ pub(crate) fn pull_for<R: Wait>(
     requires server { server < floor.now.with.servers }
     ensures ends { StaysCaller floor.now is_role.Puller (TriesSync floor.now player.old.number server result) player.old player.new }
 {
-    match actor_run::call_steps::sync(rt, alloc, floor, player, server) {
-        actor_run::call_steps::Synced::Ok(_) => Ok(Synced::Ok),
-        actor_run::call_steps::Synced::Failed(_) => Ok(Synced::NoMemory),
-        actor_run::call_steps::Synced::NotBegun => {
+    match actor_run::of_call_steps::sync(rt, alloc, floor, player, server) {
+        actor_run::of_call_steps::Synced::Ok(_) => Ok(Synced::Ok),
+        actor_run::of_call_steps::Synced::Failed(_) => Ok(Synced::NoMemory),
+        actor_run::of_call_steps::Synced::NotBegun => {
             refuse(rt, alloc, floor, player)?;
             Ok(Synced::NoMemory)
         }

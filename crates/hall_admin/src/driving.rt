@@ -5,8 +5,8 @@ ghost use Rattle.hall_admin.specs.Jobs.{GoesOnCall, IsJobOpen};
 ghost use Rattle.row_ledger.specs.declared.settings.Call.{Call};
 ghost use Rattle.job_steps.specs.seat_steps.specs.declared.floor.Player.{Player};
 
-use actor_run::call_steps::{end_call, leave_action};
-use job_steps::seat_steps::{Floor, Player};
+use actor_run::of_call_steps::{end_call, leave_action};
+use job_steps::of_seat_steps::{Floor, Player};
 use job_steps::{JobDid, go_on_with_job};
 use row_ledger::How;
 use std::alloc::Global;

@@ -12,6 +12,6 @@ pub use admin::Admin;
 pub use puller::{Puller, Synced};
 
 // What is passed on of the libraries below.
-pub mod actor_run {
+pub mod of_actor_run {
     pub use actor_run::{Hall, Passes, ReadsHistory};
 }

@@ -8,7 +8,7 @@ ghost use Rattle.job_steps.specs.volap_cell.specs.declared.role.Role.TheVariants
 
 use crate::calls::pull_for;
 use actor_run::{Hall, Pass};
-use job_steps::seat_steps::Player;
+use job_steps::of_seat_steps::Player;
 use std::alloc::{AllocError, Global};
 use std::marker::Model;
 use std::sync::Wait;

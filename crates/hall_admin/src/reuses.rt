@@ -4,8 +4,8 @@ ghost use Rattle.hall_admin.specs.Callers.{IsCaller, StaysCaller};
 ghost use Rattle.hall_admin.specs.Reuses.{AreLeftInUse};
 ghost use Rattle.job_steps.specs.volap_cell.specs.declared.role.Role.TheVariants as is_role;
 
+use job_steps::of_seat_steps::{Floor, Player};
 use job_steps::reuse_cell;
-use job_steps::seat_steps::{Floor, Player};
 use std::alloc::Global;
 use std::sync::Wait;
 

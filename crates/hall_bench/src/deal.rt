@@ -7,8 +7,8 @@ ghost use Rattle.hall_calls.specs.Passing.{CanWork, IsBack};
 ghost use Rattle.hall_calls.specs.volap_cell.specs.declared.role.Role.TheVariants.{Session as OfSession};
 
 use dim_hierarchy::Hierarchy;
-use hall_calls::actor_run::{Hall, Inserted, Pass, Passes, Session};
-use hall_calls::volap_cell::{Role, RoleList};
+use hall_calls::of_actor_run::{Hall, Inserted, Pass, Passes, Session};
+use hall_calls::of_volap_cell::{Role, RoleList};
 use row_ledger::Use;
 use script_form::{Command, Script};
 use std::alloc::{AllocError, Global};

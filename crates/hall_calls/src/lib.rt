@@ -10,10 +10,10 @@ pub use two::count_on_two_threads;
 pub use work::{Places, Told, insert_and_ask};
 
 // What is passed on of the libraries below.
-pub mod volap_cell {
-    pub use actor_run::volap_cell::{Cell, Role, RoleList, State};
+pub mod of_volap_cell {
+    pub use actor_run::of_volap_cell::{Cell, Role, RoleList, State};
 }
 
-pub mod actor_run {
+pub mod of_actor_run {
     pub use actor_run::{Asked, Hall, Inserted, Pass, Passes, Session, Steps};
 }

@@ -4,7 +4,7 @@ ghost use Rattle.dim_hierarchy.specs.Names.{IsNamePick};
 
 use crate::{Places, Told, count_on_two_threads};
 use actor_run::Asked;
-use actor_run::volap_cell::{Cell, State};
+use actor_run::of_volap_cell::{Cell, State};
 use dim_hierarchy::{Hierarchy, Name, NameFilter, NamePick, Names, RowNames};
 use row_ledger::Event;
 use std::alloc::{AllocError, Global};

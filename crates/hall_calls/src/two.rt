@@ -7,7 +7,7 @@ ghost use Rattle.hall_calls.specs.Both.{HasBoth, two_servers, two_sessions};
 ghost use Rattle.hall_calls.specs.Tells.{AreNamesFor, HasWorked};
 
 use crate::work::{Places, Told, work};
-use actor_run::volap_cell::{Role, RoleList, State};
+use actor_run::of_volap_cell::{Role, RoleList, State};
 use actor_run::{Hall, Pass};
 use dim_hierarchy::Hierarchy;
 use row_ledger::Use;

@@ -5,8 +5,8 @@ ghost use Rattle.hall_hands.specs.Hands.{BecomesHand, HasServedAll, IsHandRole};
 
 use crate::rounds::serve;
 use actor_run::{Hall, Pass};
-use hand_steps::seat_steps::Player;
-use hand_steps::volap_cell::Role;
+use hand_steps::of_seat_steps::Player;
+use hand_steps::of_volap_cell::Role;
 use std::alloc::Global;
 use std::marker::Model;
 use std::sync::Wait;

@@ -7,18 +7,18 @@ mod rounds;
 pub use hand::Hand;
 
 // What is passed on of the libraries below.
-pub mod volap_cell {
-    pub use hand_steps::volap_cell::{Cell, Role, RoleList, State};
+pub mod of_volap_cell {
+    pub use hand_steps::of_volap_cell::{Cell, Role, RoleList, State};
 }
 
-pub mod seat_steps {
-    pub use hand_steps::seat_steps::Player;
+pub mod of_seat_steps {
+    pub use hand_steps::of_seat_steps::Player;
 }
 
-pub mod whole_steps {
-    pub use actor_run::whole_steps::{Paged, Settled};
+pub mod of_whole_steps {
+    pub use actor_run::of_whole_steps::{Paged, Settled};
 }
 
-pub mod actor_run {
+pub mod of_actor_run {
     pub use actor_run::{Asked, Hall, Inserted, Pass, Passes, Session, Steps, TreeFault};
 }

@@ -5,7 +5,7 @@ ghost use Rattle.hand_steps.specs.Hands.{IsIdleHand};
 ghost use Rattle.hand_steps.specs.seat_steps.specs.Floors.{Stands};
 
 use actor_run::Hall;
-use hand_steps::seat_steps::Player;
+use hand_steps::of_seat_steps::Player;
 use hand_steps::{Found, serve_desk};
 use std::alloc::Global;
 use std::sync::Wait;

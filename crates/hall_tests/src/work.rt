@@ -5,7 +5,7 @@ ghost use Rattle.hall_calls.specs.Passing.{CanWork, IsBack};
 use crate::board::Board;
 use crate::judge::{Counts, is_allowed};
 use crate::plan::{COMMANDS, Plan, Task, task_of};
-use hall_calls::actor_run::{Asked, Hall, Inserted, Pass, Session, Steps};
+use hall_calls::of_actor_run::{Asked, Hall, Inserted, Pass, Session, Steps};
 use measure_agg::Agg;
 use std::alloc::Global;
 use std::sync::Wait;

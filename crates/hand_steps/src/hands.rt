@@ -15,9 +15,9 @@ ghost use Rattle.session_steps.specs.volap_cell.specs.declared.cell.Cell.{Cell};
 ghost use Rattle.session_steps.specs.volap_cell.specs.declared.role.Role.TheVariants.{Hand};
 
 use query_router::Desk;
-use session_steps::core_steps::{PartStep, desk_place};
-use session_steps::seat_steps::{Floor, Player, give_all, make, take_first};
-use session_steps::volap_cell::{Actor, Cell, Role};
+use session_steps::of_core_steps::{PartStep, desk_place};
+use session_steps::of_seat_steps::{Floor, Player, give_all, make, take_first};
+use session_steps::of_volap_cell::{Actor, Cell, Role};
 use std::alloc::Global;
 use std::sync::Wait;
 

@@ -8,10 +8,10 @@ pub use hands::Found;
 pub use serves::serve_desk;
 
 // What is passed on of the libraries below.
-pub mod volap_cell {
-    pub use session_steps::volap_cell::{Cell, Role, RoleList, State};
+pub mod of_volap_cell {
+    pub use session_steps::of_volap_cell::{Cell, Role, RoleList, State};
 }
 
-pub mod seat_steps {
-    pub use session_steps::seat_steps::Player;
+pub mod of_seat_steps {
+    pub use session_steps::of_seat_steps::Player;
 }

@@ -6,8 +6,8 @@ ghost use Rattle.session_steps.specs.volap_cell.specs.Values.{actor_of};
 
 use crate::hands::{Found, look_for_part};
 use session_steps::empty_purse;
-use session_steps::part_steps::{Did, Steps, go_on_at_part};
-use session_steps::seat_steps::{Floor, Player};
+use session_steps::of_part_steps::{Did, Steps, go_on_at_part};
+use session_steps::of_seat_steps::{Floor, Player};
 use std::alloc::Global;
 use std::sync::Wait;
 use volap_io::Meet;

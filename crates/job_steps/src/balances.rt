@@ -11,9 +11,9 @@ ghost use Rattle.seat_steps.specs.volap_cell.specs.Values.{actor_of};
 
 use crate::steps::{GATE, JobDid, TABLE, make_job};
 use row_ledger::{Decline, How};
-use seat_steps::core_due::{map_at, works_can_be_made};
-use seat_steps::core_steps::JobStep;
-use seat_steps::volap_cell::{Balance, Work, there};
+use seat_steps::of_core_due::{map_at, works_can_be_made};
+use seat_steps::of_core_steps::JobStep;
+use seat_steps::of_volap_cell::{Balance, Work, there};
 use seat_steps::{Floor, Lead, Player, give_all, lead_at, take, take_first};
 use std::alloc::Global;
 use std::sync::Wait;

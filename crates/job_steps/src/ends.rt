@@ -9,8 +9,8 @@ ghost use Rattle.seat_steps.specs.volap_cell.specs.Values.{JobValue, actor_of};
 
 use crate::steps::{GATE, JobDid, TABLE, make_end};
 use crate::turns::{take_books, take_three, take_two};
-use seat_steps::core_due::{last_two, works_can_be_made};
-use seat_steps::core_steps::JobStep;
+use seat_steps::of_core_due::{last_two, works_can_be_made};
+use seat_steps::of_core_steps::JobStep;
 use seat_steps::{Floor, Player, take_first};
 use std::alloc::Global;
 use std::sync::Wait;

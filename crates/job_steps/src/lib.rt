@@ -34,10 +34,10 @@ pub use reuses::reuse_cell;
 pub use steps::JobDid;
 
 // What is passed on of the libraries below.
-pub mod volap_turns {
-    pub use seat_steps::volap_turns::{Volap, close, open, opening_is_whole};
+pub mod of_volap_turns {
+    pub use seat_steps::of_volap_turns::{Volap, close, open, opening_is_whole};
 }
 
-pub mod seat_steps {
+pub mod of_seat_steps {
     pub use seat_steps::{Floor, Player};
 }

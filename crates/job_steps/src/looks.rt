@@ -10,8 +10,8 @@ ghost use Rattle.turn_table.specs.Numbered.{value_of};
 ghost use Rattle.seat_steps.specs.volap_cell.specs.Cells.{active_in, cell_of, phase_of};
 ghost use Rattle.seat_steps.specs.volap_cell.specs.declared.cell.Cell.{Cell};
 
-use seat_steps::shard_store::Phase;
-use seat_steps::volap_cell::Cell;
+use seat_steps::of_shard_store::Phase;
+use seat_steps::of_volap_cell::Cell;
 use seat_steps::{Floor, Player};
 
 /// Whether no insert is in the tree of the gate in a cell.

@@ -11,7 +11,7 @@ ghost use Rattle.seat_steps.specs.volap_turns.specs.Rows.{AreAt};
 
 use crate::looks::{is_released_at, last_gone_at};
 use crate::steps::{BLOCK, GATE, STOCK};
-use seat_steps::core_steps::{ReuseStep, stock_place};
+use seat_steps::of_core_steps::{ReuseStep, stock_place};
 use seat_steps::{Floor, Player, give_all, make, take, take_first};
 use std::alloc::Global;
 use std::sync::Wait;

@@ -11,8 +11,8 @@ ghost use Rattle.seat_steps.specs.volap_cell.specs.Values.{actor_of};
 ghost use Rattle.seat_steps.specs.volap_turns.specs.Rows.{AreAt};
 
 use row_ledger::How;
-use seat_steps::core_steps::{JobStep, stock_place};
-use seat_steps::volap_cell::Command;
+use seat_steps::of_core_steps::{JobStep, stock_place};
+use seat_steps::of_volap_cell::Command;
 use seat_steps::{Floor, Player, make, make_booked, take_first};
 use std::alloc::{AllocError, Global};
 use std::sync::Wait;

@@ -5,7 +5,7 @@ ghost use Rattle.seat_steps.specs.Floors.{IsSeated};
 ghost use Rattle.seat_steps.specs.volap_cell.specs.Setting.{ledger_cell, registry_cell, stock_cell};
 
 use crate::steps::{REGISTRY, STOCK};
-use seat_steps::core_steps::{ledger_place, registry_place, stock_place};
+use seat_steps::of_core_steps::{ledger_place, registry_place, stock_place};
 use seat_steps::{Floor, LEDGER, Player, take};
 use std::sync::Wait;
 

@@ -12,8 +12,8 @@ ghost use Rattle.library_runs.specs.Index.{AnswersLast, AnswersNothing, HasDone,
 use crate::names::first_unknown;
 use dim_hierarchy::{Hierarchy, Measures, NameFilter, RowNames};
 use measure_agg::Agg;
-use olap_top::seeded_run::{Schedule, open_core, run_phase};
-use olap_top::volap_cell::{Cell, State};
+use olap_top::of_seeded_run::{Schedule, open_core, run_phase};
+use olap_top::of_volap_cell::{Cell, State};
 use row_ledger::{Event, Use};
 use script_form::{Command, Commands, NewRow, Question};
 use std::alloc::{AllocError, Global};

@@ -11,16 +11,16 @@ pub use names::{RowFault, row, under};
 pub use text::{Answered, run_text};
 
 // What is passed on of the libraries below.
-pub mod volap_cell {
-    pub use olap_top::volap_cell::{
+pub mod of_volap_cell {
+    pub use olap_top::of_volap_cell::{
         Actor, Boxes, Cell, Kind, Role, RoleList, State, lift_one, open, put_one,
     };
 }
 
-pub mod seeded_run {
-    pub use olap_top::seeded_run::{Move, Schedule, open_core, run_by_hand, run_phase};
+pub mod of_seeded_run {
+    pub use olap_top::of_seeded_run::{Move, Schedule, open_core, run_by_hand, run_phase};
 }
 
-pub mod olap_top {
+pub mod of_olap_top {
     pub use olap_top::{Outcome, Status, olap};
 }

@@ -26,7 +26,7 @@ use script_form::Command;
 use seeded_run::{open_core, run_phase};
 use seeded_turns::Schedule;
 use std::alloc::{AllocError, Global};
-use threaded_run::actor_run::ReadsHistory;
+use threaded_run::of_actor_run::ReadsHistory;
 
 /// The core of a script's run, which one thread holds, and whose turn is next in it.
 #[derive(Drop)]

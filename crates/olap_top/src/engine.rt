@@ -20,7 +20,7 @@ use script_form::Command;
 use std::alloc::{AllocError, Global};
 use std::sync::Wait;
 use std::thread::Threads;
-use threaded_run::actor_run::ReadsHistory;
+use threaded_run::of_actor_run::ReadsHistory;
 use volap_io::Meet;
 
 /// What runs the phases of a script, and keeps its history. It has opened for the script.

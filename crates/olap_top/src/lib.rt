@@ -16,12 +16,12 @@ pub use top::olap;
 pub use wanted::Wanted;
 
 // What is passed on of the libraries below.
-pub mod volap_cell {
+pub mod of_volap_cell {
     pub use core_laws::volap_cell::{
         Actor, Boxes, Cell, Kind, Role, RoleList, State, lift_one, open, put_one,
     };
 }
 
-pub mod seeded_run {
+pub mod of_seeded_run {
     pub use seeded_run::{Move, Schedule, open_core, run_by_hand, run_phase};
 }

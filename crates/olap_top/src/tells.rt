@@ -9,7 +9,7 @@ use answer_text::{Teller, summary};
 use row_ledger::{Event, Use};
 use script_form::Command;
 use std::alloc::{AllocError, Global};
-use threaded_run::actor_run::ReadsHistory;
+use threaded_run::of_actor_run::ReadsHistory;
 
 /// What tells the phases of a run that is wanted, where they are told.
 pub(crate) fn teller_of(alloc: Global, wanted: Wanted) -> Result<Option<Teller>, AllocError>

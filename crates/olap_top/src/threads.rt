@@ -23,7 +23,7 @@ use script_form::Command;
 use std::alloc::{AllocError, Global};
 use std::sync::Wait;
 use std::thread::Threads;
-use threaded_run::actor_run::{Hall, Passes, ReadsHistory};
+use threaded_run::of_actor_run::{Hall, Passes, ReadsHistory};
 use threaded_run::{open, run_phase};
 use volap_io::Meet;
 

@@ -12,8 +12,8 @@ ghost use Rattle.seat_steps.specs.volap_turns.specs.Rows.{IsThere};
 
 use dc_node::{Block, Body};
 use dim_hierarchy::{Filter, Hierarchy};
-use seat_steps::shard_store::Queue;
-use seat_steps::volap_cell::{Actor, Cell, Task};
+use seat_steps::of_shard_store::Queue;
+use seat_steps::of_volap_cell::{Actor, Cell, Task};
 use seat_steps::{Floor, Player};
 
 /// How many rows a block has; a directory has none.

@@ -10,8 +10,8 @@ ghost use Rattle.seat_steps.specs.Looks.{Sees};
 ghost use Rattle.seat_steps.specs.volap_cell.specs.Cells.{block_in, cell_of};
 ghost use Rattle.seat_steps.specs.volap_turns.specs.Rows.{IsThere};
 
-use seat_steps::core_due::next_of;
-use seat_steps::volap_cell::Cell;
+use seat_steps::of_core_due::next_of;
+use seat_steps::of_volap_cell::Cell;
 use seat_steps::{Floor, Player, take};
 use std::sync::Wait;
 

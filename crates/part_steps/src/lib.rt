@@ -11,35 +11,35 @@ pub use parts::{Did, go_on_at_part};
 pub use steps::Steps;
 
 // What is passed on of the libraries below.
-pub mod link_descent {
+pub mod of_link_descent {
     pub use link_descent::MOST_NOTED;
 }
 
-pub mod volap_cell {
-    pub use seat_steps::volap_cell::{
+pub mod of_volap_cell {
+    pub use seat_steps::of_volap_cell::{
         Actor, Cell, Command, Errand, Role, RoleList, State, Task, Work, there,
     };
 }
 
-pub mod core_steps {
-    pub use seat_steps::core_steps::{
+pub mod of_core_steps {
+    pub use seat_steps::of_core_steps::{
         BeginStep, BookStep, CellStep, CountStep, NoteStep, PartStep, ReuseStep, TreeStep,
         desk_place, image_place, ledger_place, registry_place, stock_place,
     };
 }
 
-pub mod volap_turns {
-    pub use seat_steps::volap_turns::{Volap, step};
+pub mod of_volap_turns {
+    pub use seat_steps::of_volap_turns::{Volap, step};
 }
 
-pub mod core_due {
-    pub use seat_steps::core_due::{
+pub mod of_core_due {
+    pub use seat_steps::of_core_due::{
         WorkDue, is_spent, last_noted, map_at, parts_due, parts_prepared, tell_bytes,
         works_can_be_made,
     };
 }
 
-pub mod seat_steps {
+pub mod of_seat_steps {
     pub use seat_steps::{
         Floor, LEDGER, Player, give_all, make, make_booked, take, take_first, try_take,
     };

@@ -5,8 +5,8 @@ ghost use Rattle.hall_hands.specs.actor_run.specs.Passes.{HasTaken, IsPassOf, Is
 ghost use Rattle.phase_tests.specs.Pairs.{IsPaired, IsThere, pair};
 
 use dim_hierarchy::{Hierarchy, Name, NameFilter, NamePick, RowNames};
-use hall_hands::actor_run::{Hall, Pass, Passes};
-use hall_hands::volap_cell::{Role, RoleList};
+use hall_hands::of_actor_run::{Hall, Pass, Passes};
+use hall_hands::of_volap_cell::{Role, RoleList};
 use row_ledger::Use;
 use std::alloc::{AllocError, Global};
 use std::process::Abort;

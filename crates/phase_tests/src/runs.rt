@@ -4,8 +4,8 @@ ghost use Rattle.script_form.specs.Fits.{AreSettings, Fits};
 ghost use Rattle.threaded_run.specs.Phases.{ArePhased};
 ghost use Rattle.threaded_run.specs.Streams.{AllFit};
 
-use hall_hands::actor_run::{Hall, Passes};
-use hall_hands::volap_cell::{Cell, State};
+use hall_hands::of_actor_run::{Hall, Passes};
+use hall_hands::of_volap_cell::{Cell, State};
 use row_ledger::Event;
 use script_form::{Command, Script};
 use script_run::phase_len;

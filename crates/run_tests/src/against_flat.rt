@@ -9,7 +9,7 @@ use crate::flat::FlatRows;
 use crate::top::run_top;
 use answer_text::{Answer, Line, push_line};
 use dim_hierarchy::{FilterFault, Row};
-use library_runs::olap_top::Status;
+use library_runs::of_olap_top::Status;
 use script_form::{Command, NewRow, Question, Script, read_script};
 use std::alloc::{AllocError, Global};
 use std::fmt::Write;

@@ -4,7 +4,7 @@
 use crate::against_flat::{head, push_insert};
 use crate::chance::Dice;
 use crate::top::run_top;
-use library_runs::olap_top::Status;
+use library_runs::of_olap_top::Status;
 use measure_agg::Agg;
 use row_ledger::{AuditLine, Event, Page, ShardLine};
 use std::alloc::{AllocError, Global};

@@ -4,7 +4,7 @@ ghost use Rattle.library_runs.specs.volap_cell.specs.State.{CanLift};
 ghost use Rattle.library_runs.specs.volap_cell.specs.declared.role.Role.TheVariants.{Session, Admin};
 
 use dim_hierarchy::Hierarchy;
-use library_runs::volap_cell::{Boxes, Cell, Role, RoleList, State, lift_one, open, put_one};
+use library_runs::of_volap_cell::{Boxes, Cell, Role, RoleList, State, lift_one, open, put_one};
 use query_router::Desk;
 use row_ledger::Use;
 use std::alloc::{AllocError, Global};

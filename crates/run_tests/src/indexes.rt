@@ -4,7 +4,7 @@ ghost use Rattle.std.specs.Prelude.{◌≡◌, IfOk, length};
 ghost use Rattle.library_runs.specs.Index.{IsHeld};
 
 use dim_hierarchy::Hierarchy;
-use library_runs::olap_top::Status;
+use library_runs::of_olap_top::Status;
 use library_runs::{Index, RowFault, row, run_text, under};
 use measure_agg::Agg;
 use script_form::{Script, read_script};

@@ -3,7 +3,7 @@ use crate::bounds::{Tally, judge_all};
 use crate::chance::{Dice, lines};
 use crate::runs::{events, run_script};
 use crate::scripts::{Line, script};
-use library_runs::seeded_run::Schedule;
+use library_runs::of_seeded_run::Schedule;
 use row_ledger::Call;
 use std::alloc::{AllocError, Global};
 use std::test::Fail;

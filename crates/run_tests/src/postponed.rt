@@ -4,7 +4,7 @@ use crate::shard_stories::{
     ASK_BOTH, BOTH, COUNT, ONE_WORKER, QUEUE, REUSE, SHOW, TOWNS, TWO_WORKERS,
 };
 use crate::stories::{ASK, BEFORE, BEHIND, Story, tell};
-use library_runs::volap_cell::Kind;
+use library_runs::of_volap_cell::Kind;
 use row_ledger::Call;
 use std::test::Fail;
 

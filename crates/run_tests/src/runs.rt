@@ -6,8 +6,8 @@ ghost use Rattle.library_runs.specs.seeded_run.specs.Phase.{ClosesLast, IsCoreHe
 ghost use Rattle.library_runs.specs.seeded_run.specs.Order.{is_order};
 
 use describing_set::{DescSet, Part};
-use library_runs::seeded_run::{Schedule, open_core, run_phase};
-use library_runs::volap_cell::{Actor, Cell, State};
+use library_runs::of_seeded_run::{Schedule, open_core, run_phase};
+use library_runs::of_volap_cell::{Actor, Cell, State};
 use row_ledger::{Event, How, Page, ShardLine};
 use script_form::{Command, Script};
 use script_run::phase_len;

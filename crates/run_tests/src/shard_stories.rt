@@ -1,7 +1,7 @@
 //! Phases in which shards split and move, step by step.
 use crate::scripts::Line;
 use crate::stories::{ASK, BEFORE, BEHIND, LOOK, PULL, Story, tell};
-use library_runs::volap_cell::Kind;
+use library_runs::of_volap_cell::Kind;
 use row_ledger::Call;
 use std::test::Fail;
 

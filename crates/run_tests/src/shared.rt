@@ -1,7 +1,7 @@
 //! Pulls between which the registry doesn't change have one listing among them.
 use crate::runs::{events, run_script};
 use crate::scripts::{Line, script};
-use library_runs::seeded_run::Schedule;
+use library_runs::of_seeded_run::Schedule;
 use row_ledger::{Call, Event};
 use std::alloc::{AllocError, Global};
 use std::test::Fail;

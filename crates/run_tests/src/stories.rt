@@ -5,8 +5,8 @@ ghost use Rattle.library_runs.specs.seeded_run.specs.Phase.{ClosesLast, MayAllRu
 
 use crate::runs::{all_rest, answers, events, run_all};
 use crate::scripts::{Line, script};
-use library_runs::seeded_run::{Move, Schedule, run_by_hand};
-use library_runs::volap_cell::{Kind, State};
+use library_runs::of_seeded_run::{Move, Schedule, run_by_hand};
+use library_runs::of_volap_cell::{Kind, State};
 use row_ledger::Call;
 use script_form::{Command, Script};
 use script_run::phase_len;

@@ -1,5 +1,5 @@
 //! Texts of scripts that the top call runs.
-use library_runs::olap_top::{Outcome, olap};
+use library_runs::of_olap_top::{Outcome, olap};
 use std::alloc::{AllocError, Global};
 use std::sync::Wait;
 use std::thread::Threads;

@@ -1,7 +1,7 @@
 //! Trees that grow row by row. How high they are and how many cells they take is what another program finds, which was
 //! written apart from the same rules.
 use crate::top::run_top;
-use library_runs::olap_top::{Outcome, Status};
+use library_runs::of_olap_top::{Outcome, Status};
 use row_ledger::{Event, Page, TreePage};
 use std::alloc::{AllocError, Global};
 use std::fmt::Write;

@@ -15,29 +15,29 @@ pub use made::make;
 pub use takes::{give_all, take, try_take};
 
 // What is passed on of the libraries below.
-pub mod shard_store {
+pub mod of_shard_store {
     pub use core_due::shard_store::{Phase, Queue};
 }
 
-pub mod volap_cell {
+pub mod of_volap_cell {
     pub use core_due::volap_cell::{
         Actor, Balance, Building, Cell, Command, Errand, Role, RoleList, Stage, State, Task, Way,
         Work, there,
     };
 }
 
-pub mod core_steps {
+pub mod of_core_steps {
     pub use core_due::core_steps::{
         BeginStep, BookStep, CellStep, CountStep, JobStep, NoteStep, PartStep, ReuseStep, RowStep,
         TreeStep, desk_place, image_place, ledger_place, registry_place, stock_place,
     };
 }
 
-pub mod volap_turns {
+pub mod of_volap_turns {
     pub use volap_turns::{Volap, close, open, opening_is_whole, step};
 }
 
-pub mod core_due {
+pub mod of_core_due {
     pub use core_due::{
         WorkDue, desk_at, is_spent, last_noted, last_spare, last_two, map_at, next_of, parts_due,
         parts_prepared, tell_bytes, works_can_be_made,

@@ -12,9 +12,9 @@ ghost use Rattle.part_steps.specs.volap_cell.specs.Values.{actor_of};
 use crate::books::{DESK, books_of, take_image, take_image_alone};
 use crate::desks::is_empty_at;
 use dim_hierarchy::{Coord, Filter, Measures};
-use part_steps::core_steps::{BeginStep, NoteStep};
-use part_steps::seat_steps::{Floor, Player, give_all, make_booked, take_first};
-use part_steps::volap_cell::there;
+use part_steps::of_core_steps::{BeginStep, NoteStep};
+use part_steps::of_seat_steps::{Floor, Player, give_all, make_booked, take_first};
+use part_steps::of_volap_cell::there;
 use std::alloc::{AllocError, Global};
 use std::sync::Wait;
 

@@ -6,9 +6,9 @@ ghost use Rattle.part_steps.specs.seat_steps.specs.Takes.{Takes};
 ghost use Rattle.part_steps.specs.volap_cell.specs.Values.{actor_of};
 ghost use Rattle.part_steps.specs.volap_cell.specs.declared.role.Role.TheVariants.{Session};
 
-use part_steps::core_steps::{desk_place, image_place};
-use part_steps::seat_steps::{Floor, Player, take, take_first};
-use part_steps::volap_cell::Role;
+use part_steps::of_core_steps::{desk_place, image_place};
+use part_steps::of_seat_steps::{Floor, Player, take, take_first};
+use part_steps::of_volap_cell::Role;
 use row_ledger::Use;
 use std::sync::Wait;
 

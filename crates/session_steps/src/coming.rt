@@ -7,9 +7,9 @@ ghost use Rattle.part_steps.specs.volap_cell.specs.Setting.{actor_count};
 ghost use Rattle.part_steps.specs.volap_cell.specs.Values.{actor_of};
 
 use crate::books::{DESK, books_of};
-use part_steps::core_due::{is_spent, parts_prepared};
-use part_steps::core_steps::{CountStep, TreeStep, stock_place};
-use part_steps::seat_steps::{Floor, Player, make, take_first};
+use part_steps::of_core_due::{is_spent, parts_prepared};
+use part_steps::of_core_steps::{CountStep, TreeStep, stock_place};
+use part_steps::of_seat_steps::{Floor, Player, make, take_first};
 use std::alloc::Global;
 use std::sync::Wait;
 

@@ -18,10 +18,10 @@ ghost use Rattle.part_steps.specs.volap_cell.specs.declared.command.Work.TheVari
 use crate::books::{DESK, books_of, take_image, take_image_alone};
 use crate::desks::{due_at, is_empty_at, sum_at};
 use measure_agg::Agg;
-use part_steps::core_due::{WorkDue, works_can_be_made};
-use part_steps::core_steps::{BookStep, PartStep};
-use part_steps::seat_steps::{Floor, Player, give_all, make, make_booked, take_first};
-use part_steps::volap_cell::{Command, Work, there};
+use part_steps::of_core_due::{WorkDue, works_can_be_made};
+use part_steps::of_core_steps::{BookStep, PartStep};
+use part_steps::of_seat_steps::{Floor, Player, give_all, make, make_booked, take_first};
+use part_steps::of_volap_cell::{Command, Work, there};
 use std::alloc::{AllocError, Global};
 use std::sync::Wait;
 

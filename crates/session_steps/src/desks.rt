@@ -14,10 +14,10 @@ ghost use Rattle.part_steps.specs.volap_cell.specs.Cells.{cell_of, desk_in};
 ghost use Rattle.part_steps.specs.volap_cell.specs.declared.cell.Cell.{Cell};
 
 use measure_agg::Agg;
-use part_steps::core_due::{WorkDue, parts_due};
-use part_steps::core_steps::BookStep;
-use part_steps::seat_steps::{Floor, Player};
-use part_steps::volap_cell::{Cell, there};
+use part_steps::of_core_due::{WorkDue, parts_due};
+use part_steps::of_core_steps::BookStep;
+use part_steps::of_seat_steps::{Floor, Player};
+use part_steps::of_volap_cell::{Cell, there};
 use query_router::Verdict;
 
 /// Whether no command stands on the desk in a cell.

@@ -10,9 +10,9 @@ ghost use Rattle.part_steps.specs.volap_cell.specs.ImageKinds.{IsFree};
 ghost use Rattle.part_steps.specs.volap_cell.specs.Values.{actor_of};
 ghost use Rattle.part_steps.specs.volap_cell.specs.declared.cell.Cell.{Cell};
 
-use part_steps::core_steps::ledger_place;
-use part_steps::seat_steps::{Floor, LEDGER, Player, give_all, take_first};
-use part_steps::volap_cell::Cell;
+use part_steps::of_core_steps::ledger_place;
+use part_steps::of_seat_steps::{Floor, LEDGER, Player, give_all, take_first};
+use part_steps::of_volap_cell::Cell;
 use std::sync::Wait;
 
 /// An actor that does nothing waits for the turn of the ledger and sees the whole history, and tells how many events there are. Takes no memory.

@@ -16,31 +16,31 @@ pub use hears::hear;
 pub use visits::{noted_by, reserve_notes, take_waiting, try_visit};
 
 // What is passed on of the libraries below.
-pub mod volap_cell {
-    pub use part_steps::volap_cell::{Actor, Cell, Role, RoleList, State, there};
+pub mod of_volap_cell {
+    pub use part_steps::of_volap_cell::{Actor, Cell, Role, RoleList, State, there};
 }
 
-pub mod core_steps {
-    pub use part_steps::core_steps::{
+pub mod of_core_steps {
+    pub use part_steps::of_core_steps::{
         BookStep, CellStep, NoteStep, PartStep, ReuseStep, desk_place, image_place, ledger_place,
         registry_place, stock_place,
     };
 }
 
-pub mod volap_turns {
-    pub use part_steps::volap_turns::{Volap, step};
+pub mod of_volap_turns {
+    pub use part_steps::of_volap_turns::{Volap, step};
 }
 
-pub mod core_due {
-    pub use part_steps::core_due::{map_at, tell_bytes};
+pub mod of_core_due {
+    pub use part_steps::of_core_due::{map_at, tell_bytes};
 }
 
-pub mod seat_steps {
-    pub use part_steps::seat_steps::{
+pub mod of_seat_steps {
+    pub use part_steps::of_seat_steps::{
         Floor, LEDGER, Player, give_all, make, make_booked, take, take_first,
     };
 }
 
-pub mod part_steps {
+pub mod of_part_steps {
     pub use part_steps::{Did, Steps, go_on_at_part};
 }

@@ -15,11 +15,11 @@ ghost use Rattle.part_steps.specs.volap_cell.specs.declared.command.Work.TheVari
 
 use crate::books::books_of;
 use crate::commands::{see_desk, take_part};
-use part_steps::core_due::{WorkDue, last_noted};
-use part_steps::core_steps::{BookStep, TreeStep};
-use part_steps::link_descent::MOST_NOTED;
-use part_steps::seat_steps::{Floor, Player, give_all, make, try_take};
-use part_steps::volap_cell::{Actor, Errand, Task};
+use part_steps::of_core_due::{WorkDue, last_noted};
+use part_steps::of_core_steps::{BookStep, TreeStep};
+use part_steps::of_link_descent::MOST_NOTED;
+use part_steps::of_seat_steps::{Floor, Player, give_all, make, try_take};
+use part_steps::of_volap_cell::{Actor, Errand, Task};
 use std::alloc::{AllocError, Global};
 use std::sync::Wait;
 use turn_table::Busy;

@@ -6,8 +6,8 @@ ghost use Rattle.script_run.specs.Phases.{is_closing};
 ghost use Rattle.session_runs.specs.Sessions.{BeginsNothing, EachDoes};
 ghost use Rattle.threaded_run.specs.Phases.{AreBack, ArePhased};
 
-use hall_hands::actor_run::{Hall, Passes};
-use hall_hands::whole_steps::{Paged, Settled};
+use hall_hands::of_actor_run::{Hall, Passes};
+use hall_hands::of_whole_steps::{Paged, Settled};
 use row_ledger::{Call, Class};
 use std::alloc::{AllocError, Global};
 use std::sync::Wait;

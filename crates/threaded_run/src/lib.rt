@@ -15,6 +15,6 @@ pub use phase::run_phase;
 pub use phases::run_together;
 
 // What is passed on of the libraries below.
-pub mod actor_run {
-    pub use hall_admin::actor_run::{Hall, Passes, ReadsHistory};
+pub mod of_actor_run {
+    pub use hall_admin::of_actor_run::{Hall, Passes, ReadsHistory};
 }

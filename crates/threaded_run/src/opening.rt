@@ -8,7 +8,7 @@ ghost use Rattle.script_run.specs.Between.{IsThrough};
 ghost use Rattle.threaded_run.specs.Phases.{ArePhased};
 
 use dim_hierarchy::Hierarchy;
-use hall_hands::actor_run::{Hall, Passes};
+use hall_hands::of_actor_run::{Hall, Passes};
 use row_ledger::Use;
 use script_roles::script_roles;
 use script_run::laws::phases_begin_and_end;

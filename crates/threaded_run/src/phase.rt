@@ -6,7 +6,7 @@ ghost use Rattle.threaded_run.specs.Streams.{AllFit, ClosesLast};
 
 use crate::closing::close_phase;
 use crate::phases::run_together;
-use hall_hands::actor_run::{Hall, Passes};
+use hall_hands::of_actor_run::{Hall, Passes};
 use script_form::Command;
 use script_run::closes;
 use std::alloc::{AllocError, Global};

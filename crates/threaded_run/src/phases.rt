@@ -9,7 +9,7 @@ ghost use Rattle.threaded_run.specs.Phases.{AreBack, ArePhased, HasGivenJob, Has
 ghost use Rattle.threaded_run.specs.Streams.{AllFit, NoneClosesAt};
 
 use crate::threads::{Job, do_all_jobs, job_of};
-use hall_hands::actor_run::{Hall, Pass, Passes};
+use hall_hands::of_actor_run::{Hall, Pass, Passes};
 use script_form::Command;
 use std::alloc::{AllocError, Global};
 use std::sync::Wait;

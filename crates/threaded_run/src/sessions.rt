@@ -4,7 +4,7 @@ ghost use Rattle.script_form.specs.declared.script.Command.TheVariants as is_com
 ghost use Rattle.session_runs.specs.Sessions.{BeginsNothing, DoesInTurn};
 ghost use Rattle.threaded_run.specs.Streams.{AllFit, DoesAll, DoesSome, FitsFloor, IsOfServer};
 
-use hall_hands::actor_run::{Session, Steps};
+use hall_hands::of_actor_run::{Session, Steps};
 use script_form::{Command, NewRow, Question};
 use std::alloc::{AllocError, Global};
 use std::sync::Wait;

@@ -7,8 +7,8 @@ ghost use Rattle.threaded_run.specs.Jobs.{AreJobsBack, AreJobsReady, IsJobBack, 
 ghost use Rattle.threaded_run.specs.Streams.{AllFit, NoneClosesAt};
 
 use crate::jobs::work;
-use hall_hands::actor_run::{Hall, Pass, Session};
-use hall_hands::seat_steps::Player;
+use hall_hands::of_actor_run::{Hall, Pass, Session};
+use hall_hands::of_seat_steps::Player;
 use script_form::Command;
 use script_roles::volap_cell::Role;
 use std::alloc::Global;

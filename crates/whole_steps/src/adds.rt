@@ -4,9 +4,9 @@ ghost use Rattle.call_steps.specs.seat_steps.specs.Booked.{IsKeptAnyhow, IsUpToL
 ghost use Rattle.whole_steps.specs.Sole.{CanSeeThen, HasMadeSole, HasWaited, IsDueSole, IsSole, player};
 
 use crate::turns::{give_turns, take_turn};
-use call_steps::core_steps::{CellStep, ledger_place};
-use call_steps::seat_steps::{Floor, LEDGER};
-use call_steps::volap_turns::{Volap, step};
+use call_steps::of_core_steps::{CellStep, ledger_place};
+use call_steps::of_seat_steps::{Floor, LEDGER};
+use call_steps::of_volap_turns::{Volap, step};
 use core_pages::volap_cell::Actor;
 use std::alloc::{AllocError, Global};
 use std::sync::Wait;

@@ -7,7 +7,7 @@ ghost use Rattle.whole_steps.specs.Seats.{HasEveryone, HasTurned, Knows};
 
 use crate::copies::copy_page;
 use crate::reads::{ReadsHistory, lend_history};
-use call_steps::volap_turns::Volap;
+use call_steps::of_volap_turns::Volap;
 use describing_set::Path;
 use dim_hierarchy::copy_filter;
 use row_ledger::{Call, Event, History};

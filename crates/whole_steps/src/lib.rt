@@ -23,31 +23,31 @@ pub use tells::{Paged, call_barrier, call_page, make_page};
 pub use turns::{give_turns, look_round, take_turn};
 
 // What is passed on of the libraries below.
-pub mod volap_cell {
+pub mod of_volap_cell {
     pub use core_pages::volap_cell::{
         Actor, Cell, Command, Role, RoleList, State, Task, Work, open,
     };
 }
 
-pub mod volap_turns {
-    pub use job_steps::volap_turns::{Volap, close, open, opening_is_whole};
+pub mod of_volap_turns {
+    pub use job_steps::of_volap_turns::{Volap, close, open, opening_is_whole};
 }
 
-pub mod seat_steps {
-    pub use job_steps::seat_steps::{Floor, Player};
+pub mod of_seat_steps {
+    pub use job_steps::of_seat_steps::{Floor, Player};
 }
 
-pub mod part_steps {
-    pub use call_steps::part_steps::{Did, Steps, go_on_at_part};
+pub mod of_part_steps {
+    pub use call_steps::of_part_steps::{Did, Steps, go_on_at_part};
 }
 
-pub mod session_steps {
-    pub use call_steps::session_steps::{
+pub mod of_session_steps {
+    pub use call_steps::of_session_steps::{
         Begun, End, Next, begin_insert, begin_query, come, empty_purse, go_on_with_command, hear,
         leave, note_refused, note_unknown, noted_by, reserve_notes, take_waiting, try_visit,
     };
 }
 
-pub mod call_steps {
+pub mod of_call_steps {
     pub use call_steps::{Synced, begin_call, end_call, leave_action, sync};
 }

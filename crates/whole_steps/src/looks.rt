@@ -6,7 +6,7 @@ ghost use Rattle.core_pages.specs.volap_cell.specs.declared.cell.Cell.{Cell};
 ghost use Rattle.whole_steps.specs.Seats.{HasEveryone, HasTurned, Knows, KnowsAll};
 
 use crate::turns::{ALONE, give_turns, take_turn};
-use call_steps::volap_turns::Volap;
+use call_steps::of_volap_turns::Volap;
 use core_pages::Cells;
 use core_pages::volap_cell::Cell;
 use std::marker::{Brand, Model, PhantomData};

@@ -11,9 +11,9 @@ ghost use Rattle.core_pages.specs.volap_cell.specs.Setting.{registry_cell};
 ghost use Rattle.whole_steps.specs.Commands.{IsPageIn};
 ghost use Rattle.whole_steps.specs.Pages.{CanTell, StandsAt, TellsTree};
 
-use call_steps::core_due::map_at;
-use call_steps::core_steps::registry_place;
-use call_steps::seat_steps::Floor;
+use call_steps::of_core_due::map_at;
+use call_steps::of_core_steps::registry_place;
+use call_steps::of_seat_steps::Floor;
 use core_pages::volap_cell::Cell;
 use core_pages::{Cells, audit_page, shards_page, tree_page_at};
 use mapping_table::Where;

@@ -9,8 +9,8 @@ ghost use Rattle.row_ledger.specs.declared.event.Event.{Event};
 ghost use Rattle.whole_steps.specs.Seats.{HasEveryone, HasTurned, Knows};
 
 use crate::turns::{ALONE, give_turns, take_turn};
-use call_steps::core_steps::ledger_place;
-use call_steps::volap_turns::Volap;
+use call_steps::of_core_steps::ledger_place;
+use call_steps::of_volap_turns::Volap;
 use core_pages::volap_cell::Cell;
 use row_ledger::Event;
 use std::sync::Wait;

@@ -15,9 +15,9 @@ ghost use Rattle.whole_steps.specs.Seats.{HasEveryone};
 ghost use Rattle.whole_steps.specs.Sole.{IsSole, StandsSole, player};
 
 use crate::turns::{give_turns, take_turn};
-use call_steps::core_steps::{ReuseStep, stock_place};
-use call_steps::seat_steps::Floor;
-use call_steps::volap_turns::{Volap, step};
+use call_steps::of_core_steps::{ReuseStep, stock_place};
+use call_steps::of_seat_steps::Floor;
+use call_steps::of_volap_turns::{Volap, step};
 use core_pages::volap_cell::{Actor, Cell};
 use std::alloc::Global;
 use std::sync::Wait;

@@ -5,7 +5,7 @@ ghost use Rattle.turn_table.specs.Numbered.{value_of};
 ghost use Rattle.turn_table.specs.Seat.{IsInOrder, cell_count};
 ghost use Rattle.whole_steps.specs.Seats.{HasEveryone, HasTurned, KnowsAll, TakesCell};
 
-use call_steps::volap_turns::Volap;
+use call_steps::of_volap_turns::Volap;
 use std::sync::Wait;
 use turn_table::{Seat, TurnTable};
 
