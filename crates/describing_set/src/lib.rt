@@ -6,10 +6,10 @@
 //! and depends only on which coordinates occur. `covers` is the definition; `bearing` tells whether a set is
 //! inside a filter, overlaps it or is apart: all that it covers matches (`all_match`), or nothing does
 //! (`none_match`). A set that `keeps` a coordinate stays as it is where that is added. `growth`, `size`,
-//! `plane_of` and `goes_left` are the definitions, and `growth_within` tells the growth exactly where it is at
-//! most the bound. No call on sets takes memory.
+//! `plane_of` and `goes_left` are the definitions, and `growth_within` tells the growth exactly where it is
+//! at most the bound. No call on sets takes memory.
 //!
-//! A `Path` of one shard id takes no memory; a `SharedListing` stands in memory once and does not change.
+//! `Path::push` and `SharedListing::share` may be refused; the path is as it was then (`err`).
 #![tactic(auto)]
 
 mod bearing;

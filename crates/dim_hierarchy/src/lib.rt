@@ -6,9 +6,9 @@
 //! says what it means, the clauses `test` and `meaning` tie the two. `ancestor_laws` and `filter_laws` are
 //! laws without code.
 //!
-//! `compile` makes of a filter a `CompiledFilter`, whose `matches`, `has_all`, `meets_any` and `keep` say what
-//! the filter says of the hierarchy as it was then: it knows no concept that is added later. `lineages` reads
-//! the ancestors of a coordinate once, without memory. What adds or compiles may answer want of memory,
+//! `compile` makes of a filter a `CompiledFilter`, whose `matches`, `has_all`, `meets_any` and `keep` say
+//! what the filter says of the hierarchy as it was then: it knows no concept that is added later. `lineages`
+//! reads the ancestors of a coordinate once, without memory. What adds or compiles may answer want of memory,
 //! `add_concept` also where there are 2^28 concepts.
 #![tactic(auto)]
 

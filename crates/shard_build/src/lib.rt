@@ -2,8 +2,8 @@
 //!
 //! `build` makes the tree of fewer than 2^40 rows (`ok`, `IsBuilt` in `specs/Built.antt`): as many blocks and
 //! levels as `cells_for` and `levels_for` of `shard_plan` say, 24 rows in each leaf but the last and 12
-//! entries in each parent but the last of its level. The leaves have the rows in order: by coordinate, then by
-//! number. The entries of each level lead in order to the blocks of the level below, one to each, and each
+//! entries in each parent but the last of its level. The leaves have the rows in order: by coordinate, then
+//! by number. The entries of each level lead in order to the blocks of the level below, one to each, and each
 //! block takes the last spare of the purse. Where the blocks stand in their cells, under a gate that leads to
 //! the root, they are a tree of exactly these rows, none of them on its way.
 //!

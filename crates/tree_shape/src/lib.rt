@@ -6,10 +6,10 @@
 //! with nothing noted any more it has counted what it had to, each row once. `tree_laws` finds the blocks
 //! behind a head along right links; `frame_law` and `table_laws` say what disturbs no tree and no query.
 //! `opening_law` and `build_laws` say how a tree begins and is built level by level, and `collect_laws` that
-//! it is read block by block, each row once. `carrying_laws` finds an actor whose next block nobody holds, and
-//! `visiting_laws` that each visit leaves fewer. `worked_example`, `worked_cities` and `worked_head_cut` meet
-//! what the laws ask for. The steps themselves are those of `link_descent`; that a run makes only such steps
-//! is not said here.
+//! it is read block by block, each row once. `carrying_laws` finds an actor whose next block nobody holds,
+//! and `visiting_laws` that each visit leaves fewer. `worked_example`, `worked_cities` and `worked_head_cut`
+//! meet what the laws ask for. The steps themselves are those of `link_descent`; that a run makes only such
+//! steps is not said here.
 #![tactic(auto)]
 
 mod going_on;
