@@ -3,7 +3,7 @@
 
 mod laws;
 
-pub use laws::{an_event_adds_few, parts_are_few_at_first};
+pub use laws::{an_event_adds_few, parts_are_few_at_first, parts_stay_few};
 
 // What stands below is passed on.
 pub use core_shard;

@@ -15,6 +15,7 @@ use Rattle.volap_turns.specs.{Rows.AreAt, Rule.history_of}
 pub record IsUnchanged (was now : Player) : Type 0 where
   pub number : now.number ≡ was.number
   pub actor : actor_of now.actor ≡ actor_of was.actor
+  pub went : now.actor.went ≡ was.actor.went
   pub seen : Extends now.seat.view.seen was.seat.view.seen
 
 -- What is asked.
