@@ -1,27 +1,14 @@
-//! Commands that are called, at the seat of the actor that makes them: how they begin, how servers pull for them, and how
-//! they end. A puller calls pulls, a session those of its own server, and the administrator all others.
+//! Commands that are called, at the seat of the actor that makes them: how they begin, how servers pull for
+//! them, and how they end.
 //!
-//! Each call here is one step that puts one event in the history, behind all that stands there: the ledger is the last cell
-//! whose turn it waits for. With that event the history that the actor has seen is right, and the actor has begun nothing in
-//! it that it had not seen.
+//! A puller calls pulls, a session those of its own server, and the administrator all others. Each of
+//! `begin_call` (`begun`), `pull` (`pulled`), `leave_action` (`left`) and `end_call` (`ended`) is one step
+//! that pushes one event, and waits for the ledger last. With that event the history that the actor has seen
+//! is right, and the actor has begun nothing else in it. `sync` is a pull of one server as one call
+//! (`synced`), which leaves the purse as it was (`purse`).
 //!
-//! | Call | Its cells | Its event | What becomes of the actor |
-//! |---|---|---|---|
-//! | `begin_call` | the registry, where the call asks what stands, and the ledger | `Called` | it has the command, as that begins |
-//! | `pull` | a server's image, the registry, the ledger | `Synced` | its command is one pull further |
-//! | `leave_action` | the ledger | `Left` | its balance is at the next action |
-//! | `end_call` | the ledger | `Ended` | it does nothing |
-//!
-//! A pull is this, for a server of the floor:
-//!
-//! ```text
-//! begin_call(Sync)  pull  end_call(Fine)            the server has pulled
-//! begin_call(Sync)  end_call(NoMemory)              no memory was found for the pull
-//! ```
-//!
-//! A settle pulls for each server in the order of their numbers, and then for each once more; a barrier ends at once. The
-//! steps of splits, moves and balances between the beginning and the end are those of jobs, and stand elsewhere, as pages
-//! do. `begin_call` and `pull` may find no memory; then nothing changes. `leave_action` and `end_call` take none.
+//! Where `begin_call` or `pull` finds no memory, nothing changes (`same`); `end_call` and `leave_action` take
+//! none. What other actors push meanwhile stands between these events.
 #![tactic(auto)]
 
 mod calls;

@@ -1,4 +1,15 @@
-//! What is due for an actor of the core, as a step with its cells: a function of the actor and of cells alone, for all who make steps.
+//! What is due for an actor of the core, as a step with its cells: a function of the actor and of cells
+//! alone, for all who make steps.
+//!
+//! `part_due` gives the step for an actor at a part, `work_due` that for its open command, `reuse_due` that
+//! by which an administrator between two commands uses a cell of a gone gate again: each is its definition,
+//! and takes no memory. `enter` and `descend` pick the way of a row. `awaiting` finds a server with a part
+//! for a hand.
+//!
+//! In a state that meets the invariant what a part's step asks is so, its cells are there, and nobody else
+//! must keep them where what it wants is free (`parts_prepared`); who holds the state alone can make it
+//! (`parts_ready`), and where it finds no memory the part may end (`parts_end`). The same is said of commands
+//! in `works_can_be_made` and of gone gates in `cells_can_be_reused`. Nothing here makes a step.
 #![tactic(auto)]
 
 mod hands;

@@ -1,4 +1,15 @@
 //! The steps of commands at images, desks and the ledger.
+//!
+//! Of each step `made` says what it says in `core_tree`: the step is the one defined, and from every state
+//! that meets the invariant it leads to one that does, with the history kept or longer. Where memory is
+//! wanting, nothing changes but rooms (`refused`). Where a clause `told` stands, it says which event the step
+//! adds.
+//!
+//! `begin_insert`, `route` and `ack` are an insert, `begin_query` and `answer` a query, `sync` pulls for a
+//! server, and `count_session` counts a session at its desk. `note_called` and `note_asking` begin other
+//! commands, `note_shown` shows a page, `note_left` and `note_ended` end actions and commands; the other
+//! calls note what did not go. What begins a command or pulls takes all its memory before anything changes,
+//! and what ends an open one takes none.
 #![tactic(auto)]
 
 mod acks;

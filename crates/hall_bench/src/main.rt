@@ -1,5 +1,9 @@
-//! For measuring: the inserts of the script on standard input, dealt out to as many sessions as the word says, each of a server and on
-//! a thread of its own. It prints how many were acknowledged.
+//! For measuring: the inserts of the script on standard input, dealt out to as many sessions as the word
+//! says, each of a server and on a thread of its own. It prints how many were acknowledged.
+//! The word is 1, 2 or 4. The hall has always four servers, a worker and 65536 cells; commands that are no
+//! inserts are passed over. It ends with 2 for another word, 1 where the input is not read, 3 where it is no
+//! script, 5 where memory is wanting or there is no dimension, and 4 where it can not print. No answer is
+//! judged here, and nothing is proved of how many are acknowledged; `bench/hall.py` takes the time.
 #![tactic(auto)]
 
 ghost use Rattle.std.specs.Prelude.{◌<◌, IfSome};

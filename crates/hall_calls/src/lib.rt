@@ -1,4 +1,12 @@
 //! Sessions of a hall on threads of their own, as examples of calls.
+//!
+//! `insert_and_ask` inserts rows at two places in turn, and then asks: what it tells stands in the history
+//! that its session has seen, as many different rows of its own and its answer, which counts them (`told`).
+//! `count_on_two_threads` opens a hall with a session of each of two servers, has both do this at the same
+//! time, and closes it: the history of the state that is left is right, and has what both tell (`both`).
+//!
+//! Its two tests insert 100 rows by each session: each answer is of at least 100 rows and at most 200, and
+//! the steps of a query for all rows are at most 4. That a call returns is tested only.
 #![tactic(auto)]
 
 #[cfg(test)]

@@ -1,24 +1,15 @@
 //! The steps of splits, moves and balances, at the seat of the administrator that has called them.
 //!
-//! `go_on_with_job` makes one step of the command that is open, over the turns of just the cells that the step needs, which
-//! it takes in the order of their ranks: tables, gates, blocks, the registry, the stock and the ledger, and of one rank the
-//! lower number first.
+//! `go_on_with_job` makes the next step of the open command, over the turns of just its cells, which it takes
+//! in the order of ranks: tables, gates, blocks, registry, stock, ledger, and of one rank the lower number
+//! first. `came` says how far it comes: further, waiting for inserts in a frozen tree, at the event of its
+//! action, or at the end of the command. Where no memory is found before the shard is frozen, the command is
+//! due to end so, or the balance to leave its action: the caller makes that, by `call_steps`. Behind that the
+//! action is given up.
 //!
-//! | The job | Its cells | What becomes of it |
-//! |---|---|---|
-//! | called | table, gate, stock | its shard is frozen, or it is declined |
-//! | frozen | gate | it waits until no insert is in the tree, and then collects rows |
-//! | collecting | the block that was noted last, and then the gate | a block or a row more is read, and then the trees are made |
-//! | building | the cell of a new block | the block is in its cell |
-//! | built | tables, gates, registry, stock, ledger | the shard was split or has moved |
-//! | none, of a balance | table, gate | a load is read, and after the last one the plan is made |
-//!
-//! Where memory is wanting before the shard is frozen, the command is due to end so, or the balance to leave the action;
-//! behind that the action is given up, over the stock and the ledger. What is only due, an end or an action that is left,
-//! is for the caller to make: those are steps of commands that are called.
-//!
-//! `reuse_cell` makes one step between two commands: a cell of a gate that is gone is the stock's again, over the turns of
-//! the gate, of its last block if it has one, and of the stock.
+//! `reuse_cell` makes a cell of a gate that is gone the stock's again, between two commands (`some`), and
+//! takes no memory; where a query is pinned to each such gate nothing changes (`none`, `in_use`). That a job
+//! ends is not proved: a frozen shard waits for the inserts in its tree.
 #![tactic(auto)]
 
 mod balances;

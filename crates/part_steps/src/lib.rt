@@ -1,4 +1,14 @@
 //! How an actor goes on with a part at its seat: each step over the turns of just the cells that it needs.
+//!
+//! `go_on_at_part` waits for the turns of the cells of one step and makes it. All of the actor but its part,
+//! its purse and its rooms is as it was, it keeps no cell that it need not, and what it has seen of the
+//! history only grows (`went`). There is no error: where memory is wanting the part ends with that. `Did`
+//! tells whether a block was visited or the part has ended.
+//!
+//! The steps of a query are counted in the `Steps` that are lent: takes of the turn of a table, a gate or a
+//! block, and tests of rows. They are never lowered. For a part of a query over everything they are two at
+//! most up to its gate or its desk, and none behind the gate where it has noted no block (`costs`). No bound
+//! is proved of other queries, nor that a wait for a turn ends.
 #![tactic(auto)]
 
 mod counts;

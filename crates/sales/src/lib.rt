@@ -1,4 +1,12 @@
 //! Whether a question in names asks for a sale.
+//!
+//! `is_asked` takes the names of a sale, one for each dimension, and a question in names. Where it answers a
+//! test, there are the coordinate of these names and the filter of that question, and the test is whether the
+//! one matches the other (`asked`). Else it tells a fault; when which fault comes is not in its contract.
+//! `set_of_both` is the describing set of two coordinates.
+//!
+//! It is a small crate to copy: each function has one contract, and stands on that of `dim_hierarchy` or
+//! `describing_set`.
 #![tactic(auto)]
 
 ghost use Rattle.std.specs.Prelude.{◌≡◌, ◌↔◌, All, IfOk, IsTrue, List, length};

@@ -1,5 +1,14 @@
-//! An actor at its seat: the turns that it takes and gives back, what it sees in the cells that it holds, and one step of
-//! any kind over them, with or without an event of the history.
+//! An actor at its seat: the turns that it takes and gives back, what it sees in the cells that it holds, and
+//! one step of any kind over them, with or without an event of the history.
+//!
+//! A `Player` is an actor with its seat, over the `Floor` that all share; between steps it `Stands`: it holds
+//! just the cell that its actor must keep. `take` waits for one more cell, in the order of ranks (`rank`).
+//! `try_take` asks for no order and waits for nobody; where it goes without, it tells the word that it read
+//! (`busy`, `read`). At most 7 cells are held.
+//!
+//! `make` makes a step over the held cells and gives back all but the one to keep: it is the step defined
+//! (`made`), or, where memory is wanting, actor and history are as before (`same_actor`, `same_seen`).
+//! `make_booked` waits for the ledger last and adds an event (`booked`). That a wait ends is not proved.
 #![tactic(auto)]
 
 mod booked;

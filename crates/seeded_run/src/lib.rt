@@ -1,4 +1,14 @@
 //! A script's phases over the core, all actors on one thread: a core opens, and each phase runs to its end.
+//!
+//! `open_core` opens the core of a script (`core`, `opening`). `run_phase` makes turns, in order or as a seed
+//! draws: each is a step of the actor whose turn it is, of the kind that was due or of one that stands for
+//! it, and keeps the invariant (`turns`). Where nobody can step any more (`rested`) it ends, with the history
+//! a run of the phases so far (`between`). `run_commands` does so over any such core with idle actors
+//! (`behind`); `run_by_hand` makes the moves that it is told (`moved`).
+//!
+//! `steps_run_out` and `somebody_goes_on` say why a phase ends. An error is want of memory: the phase has
+//! stopped midway, and the history is a part of a run (`into`). Even without an error a command may have
+//! ended for want of memory.
 #![tactic(auto)]
 
 mod alone;

@@ -1,4 +1,14 @@
-//! What a session does with its commands at its seat: how they begin, go on and end, and how it is counted at its server's desk.
+//! What a session does with its commands at its seat: how they begin, go on and end, and how it is counted at
+//! its server's desk.
+//!
+//! `begin_insert` and `begin_query` push the event of the session with the arguments of the call as the
+//! newest one (`begun`), `note_unknown` and `note_refused` that of a command that does not begin (`noted`).
+//! Where no memory is found for it the session is as before. `go_on_with_command` goes one step further, or
+//! ends the command with the newest event of a right history, in which the session has begun nothing else
+//! (`comes`). It answers `Waits` where another session has the desk, or another actor a part.
+//!
+//! `come` and `leave` count the session at its desk, `hear` sees the whole history, `try_visit` visits a
+//! block if its turn is free (`visited`, `busy`): these take no memory.
 #![tactic(auto)]
 
 mod begins;

@@ -1,5 +1,15 @@
-//! What it means that cells hold a tree of blocks, where each row is, and what an unfinished query has
-//! still before it; and that the steps of inserts and queries keep it.
+//! What it means that cells hold a tree of blocks, where each row is, and what an unfinished query has still
+//! before it; and that the steps of inserts and queries keep it.
+//!
+//! All of it is definitions and laws without code. `insert_laws` and `query_laws` say that each step of an
+//! insert and of a query leaves a tree, with the rows where the step says, and every unfinished query right:
+//! with nothing noted any more it has counted what it had to, each row once. `tree_laws` finds the blocks
+//! behind a head along right links; `frame_law` and `table_laws` say what disturbs no tree and no query.
+//! `opening_law` and `build_laws` say how a tree begins and is built level by level, and `collect_laws` that
+//! it is read block by block, each row once. `carrying_laws` finds an actor whose next block nobody holds,
+//! and `visiting_laws` that each visit leaves fewer. `worked_example`, `worked_cities` and `worked_head_cut`
+//! meet what the laws ask for. The steps themselves are those of `link_descent`; that a run makes only such
+//! steps is not said here.
 #![tactic(auto)]
 
 mod going_on;

@@ -1,4 +1,11 @@
 //! Tests of the crates beneath a shard, by what these let out.
+//!
+//! Each file is of the crate that its first line names: hierarchies, rows and filters, describing sets,
+//! aggregates, cuts, blocks, gates and stocks, built trees and their sizes, pages, desks, tables of shards,
+//! plans of balances and transfer texts.
+//!
+//! They compare tables of cases with answers that are written out beside them, or read back what was made.
+//! All are small, on one thread, without chance, and end by themselves.
 #![tactic(auto)]
 
 #[cfg(test)]

@@ -1,4 +1,12 @@
 //! The program: runs a script from standard input, and prints the answers.
+//!
+//! It hands the words of the command line behind its own name, standard input and standard output to `olap`
+//! of `olap_top`, and ends with the code of the status, 0 for `Done`; any other is also told as one word on
+//! standard error. Words that are no text count as unknown ones, and where no memory is found for the words
+//! the status is `NoMemory`.
+//!
+//! `main` has no clause of its own: what is proved is said of `olap`, over any source and sink. What the
+//! streams of the process give and take is trusted, and what stands on standard error is tested only.
 #![tactic(auto)]
 
 use olap_top::{Status, olap};

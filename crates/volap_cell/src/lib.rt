@@ -1,4 +1,15 @@
 //! The cells and actors of the core, what each kind of step does to them, and what holds between steps.
+//!
+//! `specs/` says what each of the 28 kinds of step does to the cells that it holds and to its actor (`Does`),
+//! and the invariant that every step is to keep (`InvWith`), by which the history is right. `open` gives the
+//! `State` with which a core begins, one empty shard on each worker, or answers want of memory.
+//!
+//! The laws are functions without code. What a core begins with meets the invariant (`opening_holds`). In
+//! each state that meets it a row whose insert began and did not fail has just one place
+//! (`each_row_has_one_place`), each acknowledged row is in a shard that stands (`shards_have_the_rows`), each
+//! row that a server must know lies in a box of its image (`images_cover`), and an open query counts rows
+//! once (`queries_count_once`). That steps keep the invariant is proved in the crates of steps, beginning
+//! with `core_tree`.
 #![tactic(auto)]
 
 mod actor;

@@ -1,5 +1,15 @@
-//! Steps at the seat that has all actors of a core: nobody else can push an event meanwhile, so the history is known exactly, and
-//! once each cell was taken and given back the whole state is.
+//! Steps at the seat that has all actors of a core: nobody else can push an event meanwhile, so the history
+//! is known exactly, and once each cell was taken and given back the whole state is.
+//!
+//! After `look_round` the seat knows what is in each cell (`knows`). `begin_call`, `show` and `end_call` push
+//! the newest events, with nothing between them (`begun`, `shown`, `ended`). `call_page` makes such a command
+//! whole, whose page is one of a state that meets the invariant (`paged`); `call_barrier` (`done`) and
+//! `call_settle`, with two pulls of each server (`settled`), are whole commands too. `reuse_all` uses all
+//! cells of gone gates again (`none`). `lend_history` (`told`) and `copy_history` (`all`) give out the
+//! history.
+//!
+//! Where memory is wanting, a call has not begun, or ends with that. So does the page of a tree whose shard
+//! does not stand. That a wait for a turn ends is not proved.
 #![tactic(auto)]
 
 mod adds;
