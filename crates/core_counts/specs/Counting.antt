@@ -1,6 +1,6 @@
 -- How many parts of its open command an actor has ended or sent on. With what the parts of a session's query still may go on, these are
 -- no more than there are shards, splits and moves for.
-use Rattle.std.specs.Prelude.{ℕ, ◌≡◌, ◌≢◌, ◌+◌, ◌^◌, ◌-◌, ◌<◌, ◌≤◌, nat_lt, if◌then◌else◌, Option, Some, None}
+use Rattle.std.specs.Prelude.{ℕ, ◌≡◌, ◌≢◌, ◌+◌, ◌^◌, ◌-◌, ◌≤◌, nat_lt, Bool, true, false, if◌then◌else◌, Some, None, is_some}
 use Rattle.core_counts.specs.Ahead.{ahead, most_ahead}
 use Rattle.core_shard.specs.volap_cell.specs.{Cells.desk_in, Ghost.Ghost, Invariant.InvWith, Setting.{Setting, desk_cell}, Steps.{Step, history_in}, Values.{ActorValue, ErrandValue}, View.view, World.World, declared.command.Command.Command, declared.kind.Kind.Kind, declared.role.Role.TheVariants.Session}
 use Rattle.core_shard.specs.volap_cell.specs.declared.command.Work.TheVariants.{Query}
@@ -9,14 +9,15 @@ use Rattle.core_shard.specs.volap_cell.specs.declared.command.Work.TheVariants.{
 abbrev pub one_more : ℕ → ℕ
 one_more went = if nat_lt went (2 ^ 64 - 1) then went + 1 else went
 
-abbrev pub went_by : Option Command → (before now : Option ErrandValue) → ℕ → ℕ
-went_by None before now went = 0
-went_by (Some c) (Some e) None went = one_more went
-went_by (Some c) before now went = went
+-- none where no command was open; one more where the actor was at a part and is at none now
+abbrev pub went_if : (open was_at is_at : Bool) → ℕ → ℕ
+went_if false was_at is_at went = 0
+went_if true true false went = one_more went
+went_if true was_at is_at went = went
 
--- Behind a step of an actor: none where it had no command open; one more where it was at a part and is at none now.
+-- so many behind a step of an actor
 abbrev pub went_after : (before now : ActorValue) → ℕ → ℕ
-went_after before now went = went_by before.command before.errand now.errand went
+went_after before now went = went_if (is_some before.command) (is_some before.errand) (is_some now.errand) went
 
 -- an actor has ended or sent on so many parts
 pub record IsCounted (s : Setting) (w : World) (a went : ℕ) : Type 0 where
