@@ -10,7 +10,7 @@ abbrev pub one_more : ℕ → ℕ
 one_more went = if nat_lt went (2 ^ 64 - 1) then went + 1 else went
 
 -- none where no command was open; one more where the actor was at a part and is at none now
-abbrev pub went_if : (open was_at is_at : Bool) → ℕ → ℕ
+abbrev pub went_if : (begun was_at is_at : Bool) → ℕ → ℕ
 went_if false was_at is_at went = 0
 went_if true true false went = one_more went
 went_if true was_at is_at went = went
