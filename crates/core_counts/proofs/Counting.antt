@@ -1,5 +1,5 @@
 -- A step of any kind leaves the parts of open queries few.
-use Rattle.std.proofs.{Common.{◌≡◌, ◌≢◌, ◌∙◌, ◌⊎◌, inl, inr, ℕ, ◌+◌, ◌<◌, ◌≤◌, List, [], ◌∷◌, ◌++◌, Bool, true, false, All, eqb, get_or, Option, Some, None, refl, sym, ap, subst, arith}, lemmas.Bool.{eqb-false, eqb-true}, lemmas.List.Elements.{All-head, All-tail, All-weaker}}
+use Rattle.std.proofs.{Common.{◌≡◌, ◌≢◌, ◌∙◌, inl, inr, ℕ, ◌+◌, ◌<◌, ◌≤◌, List, [], ◌∷◌, ◌++◌, Bool, true, false, All, eqb, get_or, Option, Some, None, sym, ap, subst, arith}, lemmas.Bool.{eqb-false, eqb-true}, lemmas.List.Elements.{All-head, All-tail, All-weaker}}
 use Rattle.std.specs.Prelude.{if◌then◌else◌, is_some, nat_lt, ◌^◌, ◌-◌}
 use Rattle.list_words.proofs.Truth.{on_bool}
 use Rattle.query_router.specs.{Desk.DeskValue, declared.part.Part.Part}
@@ -8,8 +8,8 @@ use Rattle.row_ledger.specs.{Right.{EachEvent, Site, Stands}, Shards.ids_made, d
 use Rattle.core_told.proofs.Told.{none-some, others-law, told-law}
 use Rattle.core_told.specs.Told.{OfBeginning, OfDeed, OfEnd, OfNothing, OfPage, OfPull, Told}
 use Rattle.core_shard.specs.volap_cell.proofs.Persons.{IsNumbered, has-role}
-use Rattle.core_shard.specs.volap_cell.specs.{Desking.{AreLinesApart, AreUnrelated, IsQueryPart, is_on_desk}, Ghost.Ghost, Invariant.InvWith, Setting.{Setting, site_in}, Steps.{Step, history_in}, Values.ErrandValue, View.{View, view}, World.World, declared.command.Command.Command, declared.command.Work.TheVariants.{Query}, declared.kind.Kind.Kind, declared.role.Role.Role, declared.role.Role.TheVariants.{Hand, Session}}
-use Rattle.core_counts.specs.{Ahead.{AreApart, ahead, most_ahead}, Counting.{CountingLaw, IsCounted, IsCounting, RestingCountLaw, one_more, went_after, went_if}}
+use Rattle.core_shard.specs.volap_cell.specs.{Desking.{AreLinesApart, AreUnrelated, IsQueryPart, is_on_desk}, Ghost.Ghost, Invariant.InvWith, Setting.{Setting, site_in}, Steps.{Step, history_in}, Values.ErrandValue, View.{View, view}, World.World, declared.command.Command.Command, declared.command.Work.TheVariants.{Query}, declared.kind.Kind.Kind, declared.role.Role.TheVariants.{Hand, Session}}
+use Rattle.core_counts.specs.{Ahead.{AreApart, ahead, most_ahead}, Counting.{CountingLaw, IsCounted, IsCounting, RestingCountLaw, went_after, went_if}}
 use Rattle.core_counts.proofs.{AtFirst.{at-first-law, ids-grow}, Going.{Ends, Goes, SameErrand, Stays, Takes, goes-now}, Grows.grows-law, Leaving.Leaves}
 
 -- What was counted.

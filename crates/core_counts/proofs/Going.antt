@@ -1,11 +1,11 @@
 -- What each kind of step does to desks, and to its actor's errand and command.
-use Rattle.std.proofs.Common.{◌≡◌, ◌≢◌, ◌∙◌, ◌⊎◌, inl, inr, ℕ, Bool, true, false, List, [], ◌∷◌, ◌++◌, Option, Some, None, refl, sym, ap, subst}
+use Rattle.std.proofs.Common.{◌≡◌, ◌∙◌, ◌⊎◌, inl, inr, ℕ, true, false, List, [], ◌∷◌, ◌++◌, Option, Some, None, refl, sym, ap, subst}
 use Rattle.list_words.specs.Counts.{Each}
 use Rattle.query_router.specs.Desk.{DeskValue}
 use Rattle.row_ledger.specs.declared.event.Event.{Event}
 use Rattle.core_told.proofs.Told.{doing-is, none-some}
 use Rattle.core_shard.specs.volap_cell.proofs.Views.Frames.{actor-at}
-use Rattle.core_shard.specs.volap_cell.specs.{AdminKinds.{DoesFreeze, Finishes, GivesUp}, Cells.{DeskCell, desk_in, tag_of}, Commands.{due_pull, once_shown, pulled_once}, Ghost.Ghost, ImageKinds.{CountsSession, DoesNote, DoesNoteWith, NotesCalled, OfCalled, OfCalledAsking, OfCount, OfEnded, OfLeft, OfQuery, OfRefused, OfShown, OfUnknown, OfUnrouted, doing}, Invariant.InvWith, Kinds.Does, Setting.{Setting, desk_cell}, Steps.Step, Values.{ActorValue, ErrandValue, JobValue}, View.{View, view}, World.{Agrees, Change, World, after, put}, declared.command.Command.Command, declared.command.Work.Work, declared.kind.Kind.Kind}
+use Rattle.core_shard.specs.volap_cell.specs.{AdminKinds.{DoesFreeze, Finishes, GivesUp}, Cells.tag_of, Commands.{due_pull, once_shown, pulled_once}, Ghost.Ghost, ImageKinds.{CountsSession, DoesNote, DoesNoteWith, OfCalled, OfCalledAsking, OfCount, OfEnded, OfLeft, OfQuery, OfRefused, OfShown, OfUnknown, OfUnrouted, doing}, Invariant.InvWith, Kinds.Does, Setting.{Setting, desk_cell}, Steps.Step, Values.{ActorValue, ErrandValue, JobValue}, View.view, World.{Agrees, Change, World, after, put}, declared.command.Command.Command, declared.command.Work.Work, declared.kind.Kind.Kind}
 use Rattle.core_shard.specs.volap_cell.specs.declared.command.Work.TheVariants as work_is
 use Rattle.core_shard.specs.volap_cell.specs.declared.kind.Kind.TheVariants as kind
 use Rattle.core_counts.proofs.{Leaving.{IsOff, Leaves, clears, each-append, filled-off, leaves, moves-off, off, opens, same, same-off, tail-off, turned}, Turning.{EndsPart, TakesPart, expands-part, finishes-part, finishes-pinned, forwards-part, takes-part}}

@@ -1,13 +1,13 @@
 -- A part that is taken leaves what is ahead of its desk's parts; one that goes on or ends makes it less.
-use Rattle.std.proofs.{Common.{◌≡◌, ◌≢◌, ◌∙◌, ◌⊎◌, inl, inr, ℕ, ◌+◌, ◌≤◌, List, [], ◌∷◌, ◌++◌, Bool, true, false, take, drop, Option, Some, None, refl, sym, ap, subst, arith, ◌||◌, eqb}, lemmas.Bool.{eqb-false, eqb-true, or_right}, lemmas.List.Sums.sum_by-cons}
+use Rattle.std.proofs.{Common.{◌≡◌, ◌≢◌, ◌∙◌, inl, inr, ℕ, ◌+◌, ◌≤◌, List, [], ◌∷◌, ◌++◌, Bool, true, false, take, drop, Option, Some, None, refl, sym, ap, subst, arith, ◌||◌, eqb}, lemmas.Bool.{eqb-false, eqb-true, or_right}, lemmas.List.Sums.sum_by-cons}
 use Rattle.std.specs.Prelude.{if◌then◌else◌, slice_set}
 use Rattle.query_router.specs.{Desk.{DeskValue, expanded, is_open, is_taken, is_waiting, is_with, state_is_taken, state_waits, taken_from}, declared.part.Part.Part, declared.part.PartState.PartState}
 use Rattle.query_router.specs.declared.part.Want.TheVariants as want
 use Rattle.row_ledger.specs.declared.event.Event.{Event}
 use Rattle.list_words.proofs.Truth.{on_bool}
 use Rattle.core_shard.proofs.{BackFacts.{in-place, one-turned}, FarLess.far-split, ForwardsPart.far-forward}
-use Rattle.core_shard.specs.volap_cell.proofs.{Desks.Facts.with-parts, Desks.Lists.{place-set, place-splits, sum-exchanged}, Desks.Shared.{TurnsParts, turned-parts}, Histories.Books.{gate-desk, one-desk, table-desk}, Views.Fields.IsNewAt, Views.Frames.actor-at, Views.Parts.{view-expand, view-finish_part, view-finish_unpinned, view-forward, view-take_part}, Views.Shown.held-leads}
-use Rattle.core_shard.specs.volap_cell.specs.{Cells.{desk_in, tag_of}, Falls.far, Ghost.Ghost, Invariant.InvWith, Setting.{Setting, desk_cell, site_in}, ShardKinds.{DoesExpand, DoesFinishPart, DoesForward, DoesTakePart, IsDeskFor, IsOutcome, IsOutside, PutsChildren, Unpins, child_for, errand_for, path_in, pin_of, waiting}, Steps.history_in, Values.{ActorValue, ErrandValue, OfRow, Read, TaskValue, Unread}, View.{View, view}, World.{Agrees, Change, World, after}, declared.command.Command.Command, declared.role.Role.{Role}, declared.role.Role.TheVariants.{Session}}
+use Rattle.core_shard.specs.volap_cell.proofs.{Desks.Facts.with-parts, Desks.Lists.{place-set, place-splits, sum-exchanged}, Desks.Shared.{TurnsParts, turned-parts}, Histories.Books.{gate-desk, one-desk, table-desk}, Views.Fields.IsNewAt, Views.Frames.actor-at, Views.Parts.{view-expand, view-finish_part, view-forward, view-take_part}, Views.Shown.held-leads}
+use Rattle.core_shard.specs.volap_cell.specs.{Cells.tag_of, Falls.far, Ghost.Ghost, Invariant.InvWith, Setting.{Setting, site_in}, ShardKinds.{DoesExpand, DoesFinishPart, DoesForward, DoesTakePart, IsDeskFor, IsOutcome, PutsChildren, Unpins, child_for, errand_for, path_in, pin_of, waiting}, Steps.history_in, Values.{ActorValue, ErrandValue, OfRow, Read, TaskValue, Unread}, View.{View, view}, World.{Agrees, Change, World, after}, declared.command.Command.Command, declared.role.Role.Role, declared.role.Role.TheVariants.Session}
 use Rattle.core_counts.specs.Ahead.{ahead, ahead_of}
 
 -- an actor takes a part, of its own server's desk where it is a session
