@@ -1,4 +1,2 @@
 pub mod Ahead
--- What stands below is passed on.
-pub use Rattle.core_shard.specs.volap_cell
-pub use Rattle.core_shard
+pub mod Counting

@@ -15,6 +15,7 @@ use Rattle.volap_turns.specs.{Rows.AreAt, Rule.history_of}
 pub record IsUnchanged (was now : Player) : Type 0 where
   pub number : now.number ≡ was.number
   pub actor : actor_of now.actor ≡ actor_of was.actor
+  pub went : now.actor.went ≡ was.actor.went
   pub seen : Extends now.seat.view.seen was.seat.view.seen
 
 -- What is asked.
@@ -53,6 +54,7 @@ pub record IsAsBefore (f : Floor) (was now : Player) : Type 0 where
   pub stands : Stands f now
   pub number : now.number ≡ was.number
   pub actor : actor_of now.actor ≡ actor_of was.actor
+  pub went : now.actor.went ≡ was.actor.went
   pub seen : Extends now.seat.view.seen was.seat.view.seen
 
 -- The newest event is one of the actor, which has begun nothing else that it hadn't seen; the history that it has seen is right.

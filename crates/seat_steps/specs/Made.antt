@@ -1,5 +1,6 @@
 -- What a step of an actor at its seat comes to.
 use Rattle.std.specs.Prelude.{ℕ, ◌≡◌, List, Option}
+use Rattle.core_counts.specs.Counting.{went_after}
 use Rattle.core_due.specs.core_steps.specs.{Places.values, Steps.Went}
 use Rattle.dim_hierarchy.specs.Dimension.{Dimension}
 use Rattle.seat_steps.specs.{Floors.{AreTold, kept_by}, declared.floor.Player.Player}
@@ -13,7 +14,7 @@ IsKeptBy h kind Sees Tells row p =
     (b : ActorValue) (now : List (Option Cell)) → Went h kind Sees row (cells_for p.seat.view.held row) now (actor_of p.actor) b
     → Tells (actor_of p.actor) (values (cells_for p.seat.view.held row)) (values now) → AreTold (after_first p.seat.ranks) (kept_by b)
 
--- The step was made over the held cells, which now are these. Who held the ledger has seen its event.
+-- The step was made over the held cells, which now are these, and was counted. Who held the ledger has seen its event.
 pub record HasMade (h : List Dimension) (kind : Kind) (Sees : Setting → World → ℕ → Type 0) (Tells : ActorValue → (was now : List (Option CellValue)) → Type 0) (row : List (Option ℕ)) (was now : Player) : Type 0 where
   pub new : List (ℕ × Cell)
   pub numbers : numbers_of new ≡ numbers_of was.seat.view.held
@@ -21,3 +22,4 @@ pub record HasMade (h : List Dimension) (kind : Kind) (Sees : Setting → World 
   pub went : Went h kind Sees row (cells_for was.seat.view.held row) (cells_for new row) (actor_of was.actor) (actor_of now.actor)
   pub told : Tells (actor_of was.actor) (values (cells_for was.seat.view.held row)) (values (cells_for new row))
   pub seen : now.seat.view.seen ≡ seen_of history_of (value_of new ledger_cell) was.seat.view.seen
+  pub counted : now.actor.went ≡ went_after (actor_of was.actor) (actor_of now.actor) was.actor.went

@@ -38,6 +38,7 @@ pub fn make<S: CellStep>(
     ensures same { OnErr result (player.new.number ≡ player.old.number) }
     ensures same_actor { OnErr result (actor_of player.new.actor ≡ actor_of player.old.actor) }
     ensures same_seen { OnErr result (player.new.seat.view.seen ≡ player.old.seat.view.seen) }
+    ensures uncounted { OnErr result (player.new.actor.went ≡ player.old.actor.went) }
 {
     let made = step(
         alloc,

@@ -26,11 +26,12 @@ pub record HasBegunInsert (f : Floor) (of : ℕ) (at : Coord) (measures : ℤ) (
   pub position : of ≡ length pushed.older
   pub actor : actor_of now.actor ≡ record (actor_of was.actor) { command = doing of (work_is.Insert (row_at of at measures) false); seen = length now.seat.view.seen }
 
--- The session's query has begun with the newest event, which stands at this position.
+-- The session's query has begun with the newest event, which stands at this position. No part of it was sent on.
 pub record HasAsked (f : Floor) (of : ℕ) (filter : List Pick) (was now : Player) : Type 0 where
   pub pushed : HasPushed f (asked_by filter) was now
   pub position : of ≡ length pushed.older
   pub actor : actor_of now.actor ≡ record (actor_of was.actor) { command = doing of work_is.Query; seen = length now.seat.view.seen }
+  pub went : now.actor.went ≡ 0
 
 -- It has, or else the session is as before, and has its filter again where it waits.
 abbrev pub HasBegunQuery : Floor → Begun → List Pick → Player → Player → Type 0

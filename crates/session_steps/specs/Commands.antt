@@ -1,7 +1,9 @@
 -- The commands of a session: what it has open, how far it comes, and how it ends.
-use Rattle.std.specs.Prelude.{ℕ, ◌≡◌, ◌≤◌, ⊤, Bool, List, ◌∷◌, length, None}
+use Rattle.std.specs.Prelude.{ℕ, ◌≡◌, ◌≤◌, ◌⊎◌, ⊤, Bool, List, ◌∷◌, length, Some, None}
+use Rattle.core_counts.specs.Ahead.{most_ahead}
 use Rattle.dim_hierarchy.specs.declared.row.Row.{Row}
-use Rattle.row_ledger.specs.{Right.IsRight, declared.event.Event.Event}
+use Rattle.part_steps.specs.Parts.{IsUnread}
+use Rattle.row_ledger.specs.{Past.{Query, query_at}, Right.IsRight, declared.event.Event.Event}
 use Rattle.row_ledger.specs.declared.event.Event.TheVariants.{Acked, Answered, Failed}
 use Rattle.script_run.specs.Places.{begins_of}
 use Rattle.part_steps.specs.seat_steps.specs.{Floors.Stands, declared.floor.{Floor.Floor, Player.Player}}
@@ -45,6 +47,10 @@ pub record IsStillOpen (f : Floor) (was now : Player) : Type 0 where
   pub command : (of : ℕ) (work : Work) → (actor_of was.actor).command ≡ doing of work → (work_now : Work) × IsFurtherWork work work_now
       × (actor_of now.actor ≡ record (actor_of was.actor) { command = doing of work_now; errand = (actor_of now.actor).errand })
   pub seen : Extends now.seat.view.seen was.seat.view.seen
+  pub went : now.actor.went ≡ was.actor.went
+  -- a part of a query that it is at has read no gate, and asks for what the query does
+  pub asks : (of : ℕ) (q : Query) → (actor_of was.actor).command ≡ doing of work_is.Query → query_at was.seat.view.seen of ≡ Some q
+      → ((actor_of now.actor).errand ≡ None) ⊎ ((part : IsUnread (actor_of now.actor)) × (part.filter ≡ q.filter))
 
 -- How it ends.
 
@@ -74,6 +80,8 @@ pub record HasEnded (f : Floor) (e : End) (was now : Player) : Type 0 where
   pub only : (actor_of was.actor).seen ≤ length was.seat.view.seen → begins_of now.seat.view.seen was.number ≡ begins_of was.seat.view.seen was.number
   pub ends : (of : ℕ) (work : Work) → (actor_of was.actor).command ≡ doing of work → IsEndFor e work × IsEndOf e of newest
       × (actor_of now.actor ≡ record (actor_of was.actor) { command = None; seen = length now.seat.view.seen })
+  -- parts of a query were ended or sent on no more often than there are shards, splits and moves for
+  pub few : (of : ℕ) → (actor_of was.actor).command ≡ doing of work_is.Query → was.actor.went ≤ most_ahead f.with.workers now.seat.view.seen
 
 abbrev pub ComesTo : Floor → Next → Player → Player → Type 0
 ComesTo f next.GoesOn was now = IsStillOpen f was now

@@ -43,6 +43,7 @@ pub fn noted_by(actor: &Actor) -> Option<u32>
 pub fn reserve_notes(actor: &mut Actor) -> Result<(), AllocError>
     ensures ok { OnOk result (HasRoom actor.new) }
     ensures same { actor_of actor.new ≡ actor_of actor.old }
+    ensures went { actor.new.went ≡ actor.old.went }
     ensures room { room_to_note actor.old ≤ room_to_note actor.new }
 {
     match &mut actor.errand {

@@ -1,16 +1,19 @@
 -- The law: an event keeps the state valid, and the history as it was or longer.
-use Rattle.std.proofs.Common.{◌≡◌, ◌≢◌, ◌∙◌, ℕ, ◌<◌, List, [], ◌∷◌, ◌++◌, length, slice_set, Option, inl, inr, sym, ap, subst, arith, length-set}
+use Rattle.std.proofs.Common.{◌≡◌, ◌≢◌, ◌∙◌, ℕ, ◌<◌, List, [], ◌∷◌, ◌++◌, length, slice_set, Option, inl, inr, sym, ap, subst, arith, eq-eqb, refl, length-set}
 use mathlib.Core.Option.{some, none, some-injective, some-ne-none}
 use lib.ListN.{get_elem?}
+use Rattle.atomic_table.proofs.Lists.{set_here, set_else}
 use Rattle.list_words.specs.Counts.{Each}
 use Rattle.row_ledger.specs.declared.event.Event.{Event}
+use Rattle.core_counts.proofs.Counting.{counting-law}
+use Rattle.core_counts.specs.Counting.{IsCounting, went_after}
 use Rattle.core_told.proofs.Pulling.{pulling-law}
 use Rattle.core_told.specs.Pulling.{IsPulling}
 use Rattle.turn_table.specs.Numbered.{Extends, value_of, write_all}
 use Rattle.turn_table.proofs.Numbered.{below_length, length_write_all, some_or_none}
-use Rattle.core_told.specs.volap_cell.specs.{Cells.{CellValue, cell_of, ledger_in}, Errands.{IsCarried, way_of}, Opening.IsFresh, Setting.{Setting, ledger_cell}, State.{Exchange, changes_of}, Steps.{Inv, IsKept, history_in}, Values.{ActorValue, ErrandValue, actor_of}, World.{Agrees, MustKeep, World, after}, declared.actor.Actor.Actor, declared.cell.Cell.Cell, declared.kind.Kind.Kind}
+use Rattle.core_told.specs.volap_cell.specs.{Cells.{CellValue, cell_of, ledger_in}, Errands.{IsCarried, way_of}, Opening.IsFresh, Setting.{Setting, ledger_cell}, State.{Exchange, changes_of}, Steps.{Inv, IsKept, history_in}, Values.{ActorValue, ErrandValue, actor_of}, World.{Agrees, Change, MustKeep, World, after}, declared.actor.Actor.Actor, declared.cell.Cell.Cell, declared.kind.Kind.Kind}
 use Rattle.core_told.specs.volap_cell.proofs.Runs.{reached-on}
-use Rattle.volap_turns.specs.Rule.{IsSeen, Needs, Rests, TurnLaw, history_of}
+use Rattle.volap_turns.specs.Rule.{IsSeen, Needs, Rests, TurnLaw, history_of, went_at, went_of}
 use Rattle.volap_turns.specs.Worlds.{IsWorld, is-world, past, world-of, world-written}
 
 -- The state agrees with the held cells.
@@ -66,6 +69,24 @@ inv-kept s kind n w inv to kept = record { ghost_of = kept.ghost_now; holds = ke
 pulling-kept : (s : Setting) (kind : Kind) (n : ℕ) (w : World) (inv : Inv s w) (to : World) → IsKept s kind n w to inv.ghost_of → IsPulling s w → IsPulling s to
 pulling-kept s kind n w inv to kept has = pulling-law s kind n w to inv.ghost_of kept.ghost_now inv.holds kept.holds kept.step has
 
+-- and the parts of queries stay counted, where the actor has counted its own
+module _ (s : Setting) (kind : Kind) (i : ℕ) (w : World) (inv : Inv s w) (changes : List Change) (actors : List Actor) (a b : Actor) (here : get_elem? actors i ≡ some a) (me : w.actors i ≡ actor_of a) where
+  abbrev later : World
+  later = after w changes i (actor_of b)
+
+  own-count : b.went ≡ went_after (actor_of a) (actor_of b) a.went → went_at (slice_set actors i b) i ≡ went_after (w.actors i) (later.actors i) (went_at actors i)
+  own-count e =
+      let set_at : get_elem? (slice_set actors i b) i ≡ some b = set_here actors i b (below_length actors i a here) in
+      let is_b : later.actors i ≡ actor_of b = rw (eq-eqb i i refl) refl in
+      ap went_of set_at ∙ e ∙ sym (λ k. went_after (me k) (is_b k) (went_of (here k)))
+
+  other-counts : (j : ℕ) → j ≢ i → went_at (slice_set actors i b) j ≡ went_at actors j
+  other-counts j ne = ap went_of (set_else actors i j b ne)
+
+  counting-kept : IsKept s kind i w later inv.ghost_of → b.went ≡ went_after (actor_of a) (actor_of b) a.went → IsCounting s w (went_at actors) → IsCounting s later (went_at (slice_set actors i b))
+  counting-kept kept e has =
+      counting-law s kind i w later inv.ghost_of kept.ghost_now inv.holds kept.holds kept.step (went_at actors) (went_at (slice_set actors i b)) (own-count e) other-counts has
+
 -- what is kept of the history in a state is kept of the one that a ledger has
 longer : (newer before after was now : List Event) → after ≡ newer ++ before → before ≡ was → after ≡ now → Extends now was
 longer newer before after was now grows was_is now_is = (newer, sym now_is ∙ grows ∙ ap (λ (l : List Event). newer ++ l) was_is)
@@ -101,6 +122,7 @@ lawful cells actors s new i a b valid cell_count actor_count has own knows apart
         is = world-of (write_all cells new) (slice_set actors i b) to written;
         inv = inv-kept valid.setting g.kind i w valid.inv to kept;
         pulling = pulling-kept valid.setting g.kind i w valid.inv to kept valid.pulling;
+        counting = counting-kept valid.setting g.kind i w valid.inv (changes_of g.exchanges) actors a b here me kept g.went valid.counting;
         wide = length_write_all cells new ∙ valid.wide;
         many = length-set actors i b ∙ valid.many;
       },

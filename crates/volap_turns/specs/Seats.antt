@@ -2,6 +2,7 @@
 use Rattle.std.specs.Prelude.{ℕ, ◌≡◌, ◌≢◌, false, List, Option}
 use mathlib.Core.Option.{some}
 use Rattle.atomic_table.specs.Seated.{TableId}
+use Rattle.core_counts.specs.Counting.{went_after}
 use Rattle.core_steps.specs.{Places.values, Steps.Went}
 use Rattle.dim_hierarchy.specs.Dimension.{Dimension}
 use Rattle.row_ledger.specs.declared.event.Event.{Event}
@@ -14,6 +15,7 @@ pub record HasActor (h : List Dimension) (v : View Cell Actor Event) (n : ℕ) (
   pub last : Actor
   pub has : value_of v.actors n ≡ some last
   pub same : actor_of last ≡ actor_of a
+  pub went : last.went ≡ a.went
   pub about : (actor_of a).setting.hierarchy ≡ h
   pub others : (j : ℕ) (x : Actor) (y : ℕ) → j ≢ n → value_of v.actors j ≡ some x → MustKeep (actor_of x) y → ⊥
 
@@ -35,13 +37,14 @@ abbrev pub IsStillHeld : List Dimension → Kind → (Setting → World → ℕ 
 IsStillHeld h kind Sees Tells row held a = (b : ActorValue) (now : List (Option Cell)) → Went h kind Sees row (cells_for held row) now a b → Tells a (values (cells_for held row)) (values now)
     → (y : ℕ) → MustKeep b y → IsThere (after_first held) y
 
--- One step of the actor was made: its cells have these values, and the first that is held is given back. The actor is about the
--- same thing as before.
+-- One step of the actor was made, and counted: its cells have these values, and the first that is held is given back. The actor is
+-- about the same thing as before.
 pub record HasStepped (h : List Dimension) (kind : Kind) (Sees : Setting → World → ℕ → Type 0) (Tells : ActorValue → (was now : List (Option CellValue)) → Type 0) (row : List (Option ℕ)) (was now : SeatValue Cell Actor Event) (n : ℕ) (a b : Actor) : Type 0 where
   pub new : List (ℕ × Cell)
   pub same_numbers : numbers_of new ≡ numbers_of was.view.held
   pub went : Went h kind Sees row (cells_for was.view.held row) (cells_for new row) (actor_of a) (actor_of b)
   pub told : Tells (actor_of a) (values (cells_for was.view.held row)) (values (cells_for new row))
   pub setting : (actor_of b).setting ≡ (actor_of a).setting
+  pub counted : b.went ≡ went_after (actor_of a) (actor_of b) a.went
   pub view : now.view ≡ after_commit ledger_cell history_of was.view new n b
   pub ranks : now.ranks ≡ after_first was.ranks

@@ -15,7 +15,8 @@ use std::alloc::{AllocError, Global};
 use turn_table::{Held, Lot, One, Seat, Three, TurnTable, Two};
 
 /// An actor of a seat makes a step over the cells that the seat holds, as one event; the first of these cells is given
-/// back, and the others stay held. Where memory is wanting, nothing changes.
+/// back, and the others stay held. It counts the parts of its command that it ends or sends on. Where memory is wanting,
+/// nothing changes.
 pub fn step<S: CellStep>(
     alloc: Global,
     h: &Hierarchy,
@@ -38,6 +39,7 @@ pub fn step<S: CellStep>(
     ensures sure { S.may_fail what ≡ false → IsOk result }
     ensures room { S.has_room what actor.old → IsOk result }
     ensures same { OnErr result ((seat.new ≡ seat.old) × (actor_of actor.new ≡ actor_of actor.old)) }
+    ensures uncounted { OnErr result (actor.new.went ≡ actor.old.went) }
 {
     match what.places() {
         Places::One(_) => step_over::<S, One<Cell>>(alloc, h, table, seat, number, actor, what),
@@ -78,8 +80,11 @@ fn step_over<S: CellStep, L: Lot<Volap> + Over<S>>(
     ensures sure { S.may_fail what ≡ false → IsOk result }
     ensures room { S.has_room what actor.old → IsOk result }
     ensures same { OnErr result ((seat.new ≡ seat.old) × (actor_of actor.new ≡ actor_of actor.old)) }
+    ensures uncounted { OnErr result (actor.new.went ≡ actor.old.went) }
 {
+    let before = Count::of(actor);
     let (made, cells) = L::made_over(alloc, h, table.lift_lot::<L>(seat), actor, what);
+    actor.went = before.after(actor, made.is_ok());
     if made.is_ok() {
         table.commit_lot::<L>(seat, cells, number, actor);
     } else {
