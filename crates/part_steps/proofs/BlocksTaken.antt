@@ -4,6 +4,7 @@ use Rattle.std.proofs.{Common.{◌≡◌, ◌≢◌, ◌∙◌, ℕ, ◌+◌, �
 use mathlib.Core.Logic.{dite}
 use mathlib.Core.Option.{none, some, some-injective, some-ne-none}
 use native.Mathlib.Decide.{ℕ_discrete}
+use Rattle.core_counts.specs.Counting.{IsCounted}
 use Rattle.seat_steps.specs.core_due.specs.Ready.{IsLendable, IsPrepared}
 use Rattle.seat_steps.specs.core_steps.specs.Places.{number_at, numbers}
 use Rattle.list_words.specs.Counts.{Each}
@@ -13,7 +14,7 @@ use Rattle.seat_steps.specs.{Floors.{IsAround, IsSeated}, Takes.{IsSameActor, Ta
 use Rattle.seat_steps.proofs.Around.{around}
 use Rattle.turn_table.specs.{Numbered.{Extends, numbers_of, value_of}, Seat.{cell_count, free_rank}}
 use Rattle.turn_table.proofs.{Numbered.{find_append, find_append_first, find_append_second, find_else, find_here}, Seats.numbers_append}
-use Rattle.seat_steps.specs.volap_cell.specs.{Cells.{CellValue, ledger_in}, Setting.{Setting, ledger_cell}, State.AreDifferent, Values.{ActorValue, actor_of}, World.World, declared.actor.Actor.Actor, declared.cell.Cell.Cell}
+use Rattle.seat_steps.specs.volap_cell.specs.{Cells.{CellValue, ledger_in}, Setting.{Setting, ledger_cell}, State.AreDifferent, Steps.history_in, Values.{ActorValue, actor_of}, World.World, declared.actor.Actor.Actor, declared.cell.Cell.Cell}
 use Rattle.seat_steps.specs.volap_turns.specs.Rows.{AreAt, IsThere}
 use Rattle.seat_steps.specs.volap_turns.proofs.Placed.{length-numbers}
 
@@ -156,11 +157,13 @@ module _ (f : Floor) {ys : List ℕ} {was now : Player} (seated : IsSeated f was
         workers = a.workers;
         inv = a.inv;
         pulling = a.pulling;
+        counted = subst (λ (x : ℕ × Actor). IsCounted s w x.0 x.1.went) (λ j. (number j, took.same.actor j)) a.counted;
         actor = ap w.actors (sym number) ∙ a.actor ∙ ap (λ (x : Actor). actor_of x) took.same.actor;
         there = (let there = a.there in omega arith);
         cells = a.cells;
         held = λ k c e. a.held k c (still k c e);
         free = λ k c e j ne. a.free k c (still k c e) j (λ same. ne (same ∙ number));
+        behind = extends-on (history_in w) now.seat.view.seen was.seat.view.seen a.behind took.same.seen;
         -- who held the ledger had seen the history whole, and has it still
         seen = λ c e. (
             let b = around f was seated in

@@ -1,7 +1,9 @@
 pub mod BlocksTaken
 pub mod Entered
+pub mod Everything
 pub mod FullHeads
 pub mod Keeping
+pub mod NoRows
 pub mod PartsLed
 pub mod PartsMade
 pub mod PartsSure

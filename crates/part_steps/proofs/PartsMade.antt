@@ -1,5 +1,5 @@
 -- A step of a part over the cells that the actor holds: what is asked for it is so, and the actor has gone on by it.
-use Rattle.std.proofs.Common.{◌≡◌, ◌≢◌, ◌∙◌, ℕ, ◌<◌, ◌≤◌, List, [], ◌∷◌, ◌++◌, append_assoc, length, Bool, true, false, is_ok, Option, Some, Result, refl, sym, ap, subst, inl, inr, arith}
+use Rattle.std.proofs.Common.{◌≡◌, ◌≢◌, ◌∙◌, ℕ, ◌<◌, ◌≤◌, List, [], ◌∷◌, ◌++◌, append_assoc, length, Bool, true, false, is_ok, Option, Some, Result, refl, sym, ap, subst, inl, arith}
 use Rattle.std.specs.Prelude.{⊤, IsOk}
 use Rattle.seat_steps.specs.core_due.specs.Ready.{IsLendable, IsPrepared}
 use Rattle.seat_steps.specs.core_steps.specs.{Parts.{part_asks, part_kind, part_places}, Places.{numbers, values, values_at}, Trees.{tree_asks, tree_kind, tree_places}, declared.parts.PartStep.PartStep, declared.trees.TreeStep.TreeStep}
@@ -8,12 +8,13 @@ use Rattle.seat_steps.specs.core_steps.specs.declared.trees.TreeStep.TheVariants
 use Rattle.dim_hierarchy.specs.Dimension.{Dimension}
 use Rattle.list_words.specs.Counts.{Each}
 use Rattle.row_ledger.specs.declared.event.Event.{Event}
-use Rattle.part_steps.specs.{Goings.{IsBesidePart, WentOn}, Parts.{CanEndPart, IsPartSure, IsTreeSure, IsUnread, MayWaitFor}}
+use Rattle.core_counts.specs.Counting.{went_after}
+use Rattle.part_steps.specs.{Counts.{HasReadAlone, IsOfEverything}, Goings.{IsBesidePart, WentOn}, Parts.{CanEndPart, IsForRow, IsPartSure, IsTreeSure, IsUnread, MayWaitFor}}
 use Rattle.seat_steps.specs.{Floors.{IsSeated, Stands}, Made.{HasMade, IsKeptBy}, Takes.IsSameActor, declared.floor.{Floor.Floor, Player.Player}}
-use Rattle.part_steps.proofs.{Keeping.{IsNoBalance, at-part-no-balance, part-beside, part-kept, tree-beside}, PartsSure.with-around, Takings.{all-at, first-turn, second-turn}, Unvisited.{part-unvisited, tree-unvisited}}
+use Rattle.part_steps.proofs.{Everything.{part-ends, tree-alone, tree-over}, Keeping.{IsNoBalance, at-part-no-balance, part-beside, part-kept, tree-beside}, NoRows.{read-alone, unread-alone}, PartsSure.with-around, Takings.{all-at, first-turn, second-turn}, Unvisited.{part-unvisited, tree-unvisited}}
 use Rattle.seat_steps.proofs.Around.{around, asked-held, within}
 use Rattle.turn_table.specs.Numbered.{Extends, numbers_of}
-use Rattle.seat_steps.specs.volap_cell.specs.{Cells.CellValue, Setting.Setting, State.AreDifferent, Values.{ActorValue, actor_of}, World.World}
+use Rattle.seat_steps.specs.volap_cell.specs.{Cells.CellValue, Setting.Setting, State.AreDifferent, Values.{ActorValue, actor_of}, World.World, declared.actor.Actor.Actor}
 use Rattle.seat_steps.specs.volap_cell.specs.Setting as setting
 use Rattle.seat_steps.specs.volap_turns.specs.Rows.{AreAt, cells_for}
 
@@ -91,6 +92,9 @@ module _ (f : Floor) (p : Player) (seated : IsSeated f p) where
     beside = part-beside step (no-balance ends) made.went.makes;
     seen = seen;
     unvisited = λ u. part-unvisited f.hierarchy (actor_of p.actor) (actor_of now.actor) u step _ made.went.makes.does;
+    counted = made.counted;
+    alone = λ k. inl (part-ends f.hierarchy (actor_of p.actor) (actor_of now.actor) k.unread.e k.unread.errand (unread-alone k.unread) step _ (no-balance ends) made.went.makes.does);
+    over = λ k. part-ends f.hierarchy (actor_of p.actor) (actor_of now.actor) k.e k.errand (read-alone k) step _ (no-balance ends) made.went.makes.does;
   }
 
   -- Steps at a gate, at a block or of a purse.
@@ -109,14 +113,17 @@ module _ (f : Floor) (p : Player) (seated : IsSeated f p) where
         asked-held f p k.0 k.1 k.2 (tree_places step) (tree_asks step f.hierarchy) are
         (subst (λ (h : List Dimension). tree_asks step h (values_at k.1.cells (tree_places step)) (k.1.actors p.number)) k.2.about (sure k.0 k.1 (with-around f p k.0 k.1 k.2)).asked)
 
-  pub went-tree : (step : TreeStep) (now : Player) → Stands f now → Extends now.seat.view.seen p.seat.view.seen
+  pub went-tree : (step : TreeStep) (now : Player) → IsForRow step (actor_of p.actor) → Stands f now → Extends now.seat.view.seen p.seat.view.seen
       → HasMade f.hierarchy (tree_kind step) (λ s w n. ⊤) (λ a was now. ⊤) (tree_places step) p now → WentOn f p now
-  went-tree step now stands seen made = record {
+  went-tree step now of_row stands seen made = record {
     stands = stands;
     number = made.number;
     beside = tree-beside step made.went.makes;
     seen = seen;
     unvisited = λ u. tree-unvisited f.hierarchy (actor_of p.actor) (actor_of now.actor) u step _ _ made.went;
+    counted = made.counted;
+    alone = tree-alone f.hierarchy (actor_of p.actor) (actor_of now.actor) step _ of_row made.went.makes.does;
+    over = tree-over f.hierarchy (actor_of p.actor) (actor_of now.actor) step _ of_row made.went.makes.does;
   }
 
 -- One thing after another.
@@ -125,15 +132,18 @@ extends-on : (xs ys zs : List Event) → Extends xs ys → Extends ys zs → Ext
 extends-on xs ys zs e f = (e.0 ++ f.0, e.1 ∙ ap (λ (l : List Event). e.0 ++ l) f.1 ∙ sym (append_assoc e.0 f.0 zs))
 
 module _ (f : Floor) (was mid now : Player) where
-  pub went-behind : mid.number ≡ was.number → actor_of mid.actor ≡ actor_of was.actor → Extends mid.seat.view.seen was.seat.view.seen → WentOn f mid now → WentOn f was now
-  went-behind number actor seen went = record {
+  pub went-behind : mid.number ≡ was.number → actor_of mid.actor ≡ actor_of was.actor → mid.actor.went ≡ was.actor.went → Extends mid.seat.view.seen was.seat.view.seen → WentOn f mid now → WentOn f was now
+  went-behind number actor uncounted seen went = record {
     stands = went.stands;
     number = went.number ∙ number;
     beside = subst (λ (x : ActorValue). IsBesidePart x (actor_of now.actor)) actor went.beside;
     seen = extends-on now.seat.view.seen mid.seat.view.seen was.seat.view.seen went.seen seen;
     unvisited = λ u. went.unvisited (subst IsUnread (sym actor) u);
+    counted = went.counted ∙ (λ j. went_after (actor j) (actor_of now.actor) (uncounted j));
+    alone = λ k. went.alone (subst (IsOfEverything f.hierarchy) (sym actor) k);
+    over = λ k. went.over (subst HasReadAlone (sym actor) k);
   }
 
   -- cells were taken before
   pub went-taken : IsSameActor was mid → WentOn f mid now → WentOn f was now
-  went-taken same went = went-behind same.number (ap actor_of same.actor) same.seen went
+  went-taken same went = went-behind same.number (ap actor_of same.actor) (ap (λ (x : Actor). x.went) same.actor) same.seen went

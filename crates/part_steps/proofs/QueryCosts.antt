@@ -1,22 +1,21 @@
 -- What is counted for a query: the gate that it reads can be tested, and a query over everything tests nothing there.
 use mathlib.Core.Option.{some}
-use Rattle.std.proofs.Common.{◌≡◌, ◌∙◌, ℕ, List, [], ◌∷◌, get_or, true, Option, Some, None, refl, sym, ap, subst}
+use Rattle.std.proofs.Common.{◌≡◌, ◌∙◌, ℕ, List, get_or, true, Option, Some, None, refl, sym, ap, subst}
 use Rattle.describing_set.proofs.Filters.{is_inside-IsInside}
-use Rattle.describing_set.specs.{DescSet.part_at, Filter.is_inside, Sets.IsDescSetOf, declared.set.DescSet.DescSet}
+use Rattle.describing_set.specs.{DescSet.part_at, Filter.is_inside}
 use Rattle.dim_hierarchy.specs.{Dimension.{Dimension, tree}, Filter.IsFilterOf, Meaning.IsPicked, declared.filter.Pick.Pick}
 use Rattle.part_steps.specs.{Counts.{CanTest, HasReadAlone, IsOfEverything, Tests, tests_in_queue}, Parts.{IsLed, IsUnread, IsVisiting}}
-use Rattle.part_steps.proofs.PartsSure.{errand-in, leads-in, with-around}
+use Rattle.part_steps.proofs.{NoRows.its-task, PartsSure.{errand-in, leads-in, with-around}}
 use Rattle.seat_steps.proofs.Around.{around}
 use Rattle.seat_steps.specs.{Floors.IsSeated, Looks.Sees, declared.floor.{Floor.Floor, Player.Player}}
 use Rattle.seat_steps.specs.declared.looks.Lead.TheVariants as lead
 use Rattle.turn_table.specs.Numbered.{value_of}
-use Rattle.list_words.proofs.Elements.{Some-same}
 use Rattle.seat_steps.specs.core_due.specs.Wants.{last_noted}
 use Rattle.seat_steps.specs.core_due.proofs.{AtParts.led-gate, Gates.gate-is}
 use Rattle.seat_steps.specs.core_tree.specs.ReadDue.{IsOfAll}
 use Rattle.seat_steps.specs.shard_store.specs.{Gate.IsQueueOf, declared.queue.Queue.Queue}
 use Rattle.seat_steps.specs.volap_cell.proofs.Desks.Queries.{query-part}
-use Rattle.seat_steps.specs.volap_cell.specs.{Cells.{CellValue, GateCell, cell_of, gate_shard, queue_in}, Errands.{taken_by, taken_of, want_of}, Values.{ActorValue, ErrandValue, Read, ReadingValue, TaskValue, Unread, actor_of}, View.{View, view}, declared.cell.Cell.Cell}
+use Rattle.seat_steps.specs.volap_cell.specs.{Cells.{CellValue, cell_of, queue_in}, Errands.{taken_by, taken_of, want_of}, Values.{ActorValue, ErrandValue, Read, ReadingValue, Unread, actor_of}, View.{View, view}, declared.cell.Cell.Cell}
 
 -- What a query over everything tests.
 
@@ -57,9 +56,6 @@ module _ (f : Floor) (p : Player) (seated : IsSeated f p) (map gate : ℕ) (led 
       counts of_all.unread ∙ ap (λ (x : CellValue). tests_in_queue f.hierarchy of_all.unread.filter (queue_in x)) can.gate_is ∙ no-tests f.hierarchy of_all.unread.filter can.gate.queue can.filter can.queue of_all.all
 
 -- A part has read its gate or it hasn't.
-
-its-task : (x : ActorValue) (e d : ErrandValue) → x.errand ≡ Some e → x.errand ≡ Some d → e.task ≡ d.task
-its-task x e d is has = ap (λ (z : ErrandValue). z.task) (sym (Some-same e d (sym is ∙ has)))
 
 pub not-read : {X : Type 0} (x : ActorValue) → IsUnread x → (e : ErrandValue) (r : ReadingValue) → x.errand ≡ Some e → e.task ≡ Read r → X
 not-read x u e r errand task = (let never : Unread u.filter ≡ Read r = sym u.unread ∙ its-task x u.e e u.errand errand ∙ task in absurd (cc))

@@ -6,7 +6,7 @@ use Rattle.seat_steps.specs.core_steps.specs.declared.rows.RowStep.TheVariants a
 use Rattle.dim_hierarchy.specs.Dimension.{Dimension}
 use Rattle.part_steps.specs.{Goings.WentOn, Heads.IsToMake}
 use Rattle.seat_steps.specs.{Floors.Stands, Made.HasMade, declared.floor.{Floor.Floor, Player.Player}}
-use Rattle.part_steps.proofs.{BlocksTaken.are-at, Keeping.row-beside, Unvisited.row-not}
+use Rattle.part_steps.proofs.{BlocksTaken.are-at, Keeping.row-beside, NoRows.{read-alone, row-not, unread-alone}}
 use Rattle.seat_steps.proofs.Around.{around, asked-held}
 use Rattle.turn_table.specs.Numbered.{Extends}
 use Rattle.seat_steps.specs.volap_cell.specs.Values.{actor_of}
@@ -55,5 +55,8 @@ went-row f was now step stands seen made = record {
   number = made.number;
   beside = row-beside step made.went.makes;
   seen = seen;
-  unvisited = λ u. absurd (row-not f.hierarchy (actor_of was.actor) (actor_of now.actor) u step _ made.went.makes.does);
+  unvisited = λ u. absurd (row-not f.hierarchy (actor_of was.actor) (actor_of now.actor) u.e u.errand (unread-alone u) step _ made.went.makes.does);
+  counted = made.counted;
+  alone = λ k. absurd (row-not f.hierarchy (actor_of was.actor) (actor_of now.actor) k.unread.e k.unread.errand (unread-alone k.unread) step _ made.went.makes.does);
+  over = λ k. absurd (row-not f.hierarchy (actor_of was.actor) (actor_of now.actor) k.e k.errand (read-alone k) step _ made.went.makes.does);
 }

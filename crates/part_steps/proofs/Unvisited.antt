@@ -1,14 +1,13 @@
 -- From a query's part that has read no gate a step leads to no part, to one that has read no gate, or to one whose gate it read.
 use Rattle.std.proofs.Common.{◌≡◌, ◌∙◌, List, [], ◌∷◌, Option, Some, None, sym, ap, inl, inr}
-use Rattle.seat_steps.specs.core_steps.specs.{Parts.part_kind, Rows.row_kind, Steps.Went, Trees.{tree_kind, tree_places}}
-use Rattle.seat_steps.specs.core_steps.specs.declared.{parts.PartStep.PartStep, rows.RowStep.RowStep, trees.TreeStep.TreeStep}
+use Rattle.seat_steps.specs.core_steps.specs.{Parts.part_kind, Steps.Went, Trees.{tree_kind, tree_places}}
+use Rattle.seat_steps.specs.core_steps.specs.declared.{parts.PartStep.PartStep, trees.TreeStep.TreeStep}
 use Rattle.seat_steps.specs.core_steps.specs.declared.parts.PartStep.TheVariants as part
-use Rattle.seat_steps.specs.core_steps.specs.declared.rows.RowStep.TheVariants as row
 use Rattle.seat_steps.specs.core_steps.specs.declared.trees.TreeStep.TheVariants as tree
 use Rattle.dim_hierarchy.specs.Dimension.{Dimension}
-use Rattle.list_words.proofs.Elements.{Some-same}
+use Rattle.part_steps.proofs.NoRows.{IsNoRow, its-task, no-leaving, no-put, no-queue, no-row, unread-alone}
 use Rattle.part_steps.specs.{Parts.IsUnread, Reads.{Anything, IsBeforeBlocks}}
-use Rattle.seat_steps.specs.volap_cell.specs.{Kinds.Does, TreeKinds.HasRow, Values.{ActorValue, ErrandValue, OfRow, Read, ReadingValue, Unread}, World.Change, declared.cell.Cell.Cell, declared.errand.RowErrand.RowErrand}
+use Rattle.seat_steps.specs.volap_cell.specs.{Kinds.Does, Values.{ActorValue, ErrandValue, Read, ReadingValue, Unread}, World.Change, declared.cell.Cell.Cell}
 use Rattle.seat_steps.specs.volap_cell.specs.declared.kind.Kind.TheVariants as kind
 
 -- an actor with the same part has read no gate either
@@ -21,15 +20,11 @@ module _ (h : List Dimension) (a b : ActorValue) (u : IsUnread a) where
 
   -- What the part is not.
 
-  -- its task is that of a query that has read no gate
-  its-task : (e : ErrandValue) → a.errand ≡ Some e → e.task ≡ Unread u.filter
-  its-task e errand = ap (λ (z : ErrandValue). z.task) (Some-same u.e e (sym u.errand ∙ errand)) ∙ u.unread
-
-  no-row : (e : ErrandValue) (r : RowErrand) → HasRow a e r → ⊥
-  no-row e r has = (let never : Unread u.filter ≡ OfRow r = sym (its-task e has.errand) ∙ has.row in cc)
+  off : IsNoRow u.e
+  off = unread-alone u
 
   no-reading : (e : ErrandValue) (r : ReadingValue) → a.errand ≡ Some e → e.task ≡ Read r → ⊥
-  no-reading e r errand reading = (let never : Unread u.filter ≡ Read r = sym (its-task e errand) ∙ reading in cc)
+  no-reading e r errand reading = (let never : Unread u.filter ≡ Read r = sym u.unread ∙ its-task a u.e e u.errand errand ∙ reading in cc)
 
   no-none : a.errand ≡ None → ⊥
   no-none free = (let never : None ≡ Some u.e = sym free ∙ u.errand in cc)
@@ -42,7 +37,7 @@ module _ (h : List Dimension) (a b : ActorValue) (u : IsUnread a) where
 
   look-up : (cs : List Change) → Does h kind.LookUp cs a b → IsBeforeBlocks h b
   look-up (m ∷ g ∷ []) does = elim does [
-    | inl n ↦ absurd (no-row n.e n.r n.has)
+    | inl n ↦ absurd (no-row a u.e u.errand off n.e n.r n.has)
     | inr r ↦ inr (inl (unread-still (ap errand_in r.actor_is) u))
   ]
   look-up cs does = absurd does
@@ -70,48 +65,22 @@ module _ (h : List Dimension) (a b : ActorValue) (u : IsUnread a) where
 
   -- Trees and purses.
 
-  no-put : (cs : List Change) → Does h kind.PutInLeaf cs a b → ⊥
-  no-put (c ∷ []) does = no-row does.e does.r does.has
-  no-put cs does = does
-
-  no-leaving : (cs : List Change) → Does h kind.LeaveTree cs a b → ⊥
-  no-leaving (g ∷ []) does = no-row does.e does.r does.has
-  no-leaving cs does = does
-
-  no-queue : (cs : List Change) → Does h kind.EnterQueue cs a b → ⊥
-  no-queue (m ∷ g ∷ []) does = no-row does.e does.r does.has
-  no-queue cs does = does
-
   no-visit : (cs : List Change) → Does h kind.BlockVisit cs a b → ⊥
   no-visit (c ∷ []) does = no-reading does.e does.r does.errand does.reading
   no-visit cs does = does
 
   refill : (cs : List Change) → Does h kind.Refill cs a b → IsBeforeBlocks h b
   refill (c ∷ []) does = elim does.does [
-    | inl f ↦ absurd (no-row f.1.e f.1.r f.1.has)
+    | inl f ↦ absurd (no-row a u.e u.errand off f.1.e f.1.r f.1.has)
     | inr e ↦ inr (inl (unread-still (ap errand_in e.actor_is) u))
   ]
   refill cs does = absurd does
 
   pub tree-unvisited : (step : TreeStep) (was now : List (Option Cell)) → Went h (tree_kind step) Anything (tree_places step) was now a b → IsBeforeBlocks h b
-  tree-unvisited (tree.PutInLeaf leaf) was now went = absurd (no-put _ went.makes.does)
-  tree-unvisited (tree.LeaveTree gate) was now went = absurd (no-leaving _ went.makes.does)
-  tree-unvisited (tree.EnterQueue map gate) was now went = absurd (no-queue _ went.makes.does)
+  tree-unvisited (tree.PutInLeaf leaf) was now went = absurd (no-put h a b u.e u.errand off _ went.makes.does)
+  tree-unvisited (tree.LeaveTree gate) was now went = absurd (no-leaving h a b u.e u.errand off _ went.makes.does)
+  tree-unvisited (tree.EnterQueue map gate) was now went = absurd (no-queue h a b u.e u.errand off _ went.makes.does)
   tree-unvisited (tree.ReadGate map gate) was now went = inr (inr (a, u, record { map = map; gate = gate; before = was; after = now; went = went }))
   tree-unvisited (tree.VisitBlock block) was now went = absurd (no-visit _ went.makes.does)
   tree-unvisited tree.Refill was now went = refill _ went.makes.does
   tree-unvisited tree.GiveBack was now went = refill _ went.makes.does
-
-  -- Rows.
-
-  no-down : (cs : List Change) → Does h kind.Down cs a b → ⊥
-  no-down (p ∷ c ∷ others) does = no-row does.e does.r does.has
-  no-down cs does = does
-
-  no-entrance : (cs : List Change) → Does h kind.EnterTree cs a b → ⊥
-  no-entrance (m ∷ g ∷ root ∷ others) does = no-row does.e does.r does.has
-  no-entrance cs does = does
-
-  pub row-not : (step : RowStep) (cs : List Change) → Does h (row_kind step) cs a b → ⊥
-  row-not (row.Down parent place child first second fresh) cs does = no-down cs does
-  row-not (row.EnterTree table gate root first second fresh top) cs does = no-entrance cs does

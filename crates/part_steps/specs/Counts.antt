@@ -1,12 +1,12 @@
 -- How many steps a query is counted: what it tests at a block and at a gate, and what a part of a query over everything costs.
-use Rattle.std.specs.Prelude.{ℕ, ◌≡◌, ◌+◌, ◌≤◌, if◌then◌else◌, List, [], length, Option, Some, None}
+use Rattle.std.specs.Prelude.{ℕ, ◌≡◌, ◌+◌, ◌≤◌, if◌then◌else◌, List, [], length, Some, None}
 use Rattle.dc_node.specs.Block.{rows_in}
 use Rattle.describing_set.specs.Filter.{is_inside, overlaps}
 use Rattle.dim_hierarchy.specs.{Dimension.Dimension, Filter.IsFilterOf, declared.filter.Pick.Pick}
 use Rattle.part_steps.specs.Parts.{IsUnread}
 use Rattle.seat_steps.specs.core_tree.specs.ReadDue.{IsOfAll}
 use Rattle.seat_steps.specs.shard_store.specs.{Gate.IsQueueOf, declared.gate.Gate.Gate, declared.queue.Queue.Queue}
-use Rattle.seat_steps.specs.volap_cell.specs.{Cells.{CellValue, GateCell, block_in, queue_in}, Values.{ActorValue, ErrandValue, Read, ReadingValue, TaskValue, Unread}}
+use Rattle.seat_steps.specs.volap_cell.specs.{Cells.{CellValue, GateCell, block_in, queue_in}, Values.{ActorValue, ErrandValue, Read, ReadingValue}}
 
 -- Row tests.
 

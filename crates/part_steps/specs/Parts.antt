@@ -1,9 +1,10 @@
 -- How far the part of an actor has come, and what its steps ask in whatever state the seat may be.
-use Rattle.std.specs.Prelude.{ℕ, ◌≡◌, ◌<◌, Bool, true, List, [], length, Option, Some, None}
+use Rattle.std.specs.Prelude.{ℕ, ◌≡◌, ◌<◌, ⊤, Bool, true, List, [], length, Option, Some, None}
 use mathlib.Core.Option.{none, some}
 use Rattle.seat_steps.specs.core_due.specs.{Look.setting_by, Ready.{IsStepPrepared, IsTreePrepared}, Wants.last_noted}
 use Rattle.seat_steps.specs.core_shard.specs.Due.{HasEnd}
 use Rattle.seat_steps.specs.core_steps.specs.declared.{parts.PartStep.PartStep, trees.TreeStep.TreeStep}
+use Rattle.seat_steps.specs.core_steps.specs.declared.trees.TreeStep.TheVariants as tree
 use Rattle.dim_hierarchy.specs.declared.filter.Pick.{Pick}
 use Rattle.part_steps.specs.declared.parts.{AtGate.AtGate, Route.Route}
 use Rattle.seat_steps.specs.{Looks.{Sees, lead_of}, declared.{floor.{Floor.Floor, Player.Player}, looks.Lead.Lead}}
@@ -80,6 +81,12 @@ IsPartSure f p step = (s : Setting) (w : World) → IsWith f p s w → IsStepPre
 
 abbrev pub IsTreeSure : Floor → Player → TreeStep → Type 0
 IsTreeSure f p step = (s : Setting) (w : World) → IsWith f p s w → IsTreePrepared s w p.number step
+
+-- a purse is filled for a row, and what is left in it is given back for one
+abbrev pub IsForRow : TreeStep → ActorValue → Type 0
+IsForRow tree.Refill a = (e : ErrandValue) × (r : RowErrand) × HasRow a e r
+IsForRow tree.GiveBack a = (e : ErrandValue) × (r : RowErrand) × HasRow a e r
+IsForRow step a = ⊤
 
 -- the turn of one more cell may be waited for
 pub record MayWaitFor (f : Floor) (p : Player) (cell rank : ℕ) : Type 0 where

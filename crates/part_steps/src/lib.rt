@@ -1,9 +1,10 @@
 //! How an actor goes on with a part at its seat: each step over the turns of just the cells that it needs.
 //!
 //! `go_on_at_part` waits for the turns of the cells of one step and makes it. All of the actor but its part,
-//! its purse and its rooms is as it was, it keeps no cell that it need not, and what it has seen of the
-//! history only grows (`went`). There is no error: where memory is wanting the part ends with that. `Did`
-//! tells whether a block was visited or the part has ended.
+//! its purse and its rooms is as it was, it keeps no cell that it need not, what it has seen of the history
+//! only grows, and a part that it ends or sends on is counted. A part of a query over everything ends, is
+//! sent on or reads its gate and notes no block; then it ends (`went`). There is no error: where memory is
+//! wanting the part ends with that. `Did` tells whether a block was visited or the part has ended.
 //!
 //! The steps of a query are counted in the `Steps` that are lent: takes of the turn of a table, a gate or a
 //! block, and tests of rows. They are never lowered. For a part of a query over everything they are two at

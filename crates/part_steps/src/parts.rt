@@ -8,7 +8,7 @@ ghost use Rattle.seat_steps.specs.core_steps.specs.declared.parts.PartStep.TheVa
 ghost use Rattle.seat_steps.specs.Floors.{IsSeated, Stands};
 ghost use Rattle.part_steps.specs.Counts.{Costs, HasReadAlone, IsOfEverything};
 ghost use Rattle.part_steps.specs.Goings.{WentOn};
-ghost use Rattle.part_steps.specs.Parts.{MayWaitFor, HasWay, IsFor, IsLed, IsPartSure, IsUnread, IsVisiting, IsRouteOf, IsTreeSure, CanEndPart};
+ghost use Rattle.part_steps.specs.Parts.{MayWaitFor, HasWay, IsFor, IsForRow, IsLed, IsPartSure, IsUnread, IsVisiting, IsRouteOf, IsTreeSure, CanEndPart};
 ghost use Rattle.seat_steps.specs.declared.looks.Lead.TheVariants as lead;
 ghost use Rattle.part_steps.specs.declared.parts.AtGate.TheVariants as at_gate;
 ghost use Rattle.turn_table.specs.Numbered.{numbers_of};
@@ -190,6 +190,7 @@ fn make_tree<R: Wait>(
     requires at { AreAt (tree_places step) player.old.seat.view.held }
     requires ready { IsTreeSure floor.now player.old step }
     requires ends { tree_may_fail step ≡ true → CanEndPart (actor_of player.old.actor) }
+    requires row { IsForRow step (actor_of player.old.actor) }
     ensures went { WentOn floor.now player.old player.new }
 {
     if make(alloc, floor, player, step).is_ok() {
@@ -214,6 +215,7 @@ fn take_for_tree<R: Wait>(
     requires last { numbers (tree_places step) ≡ numbers_of player.old.seat.ranks ++ cell ∷ [] }
     requires ready { IsTreeSure floor.now player.old step }
     requires ends { tree_may_fail step ≡ true → CanEndPart (actor_of player.old.actor) }
+    requires row { IsForRow step (actor_of player.old.actor) }
     ensures went { WentOn floor.now player.old player.new }
 {
     take(rt, floor, player, cell, rank);

@@ -20,5 +20,8 @@ take_for_tree-requires-clause-last g c =
     let bare = c.requires.stands.bare ∙ end-bare (way-ends Placed c.requires.placed (inl refl)) in
     ap (λ (y : ℕ). y ∷ []) (sym c.stock_place.ensures) ∙ ap (λ (l : List (ℕ × Option ℕ)). numbers_of l ++ c.stock_place.result ∷ []) (sym bare)
 
+pub take_for_tree-requires-clause-row : goal.take_for_tree-requires-clause-row
+take_for_tree-requires-clause-row g c = (c.requires.placed.e, c.requires.placed.r, c.requires.placed.has)
+
 pub take_for_tree-requires-clause-ready : goal.take_for_tree-requires-clause-ready
 take_for_tree-requires-clause-ready g c = give-back-sure c.args.floor.now c.args.player.now c.requires.placed (sym c.is_spent.ensures ∙ c.if-is_spent.false)

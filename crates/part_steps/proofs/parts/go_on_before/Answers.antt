@@ -29,3 +29,6 @@ take_for_tree-requires-clause-ready g c =
 
 pub take_for_tree-requires-clause-ends : goal.take_for_tree-requires-clause-ends
 take_for_tree-requires-clause-ends g c = λ fails. way-ends (Before c.args.height c.args.filled) c.requires.before (inr refl)
+
+pub take_for_tree-requires-clause-row : goal.take_for_tree-requires-clause-row
+take_for_tree-requires-clause-row g c = (c.requires.before.e, c.requires.before.r, c.requires.before.has)

@@ -28,5 +28,5 @@ pub returns : goal.returns
 returns g c =
     let err = sym c.is_ok.ensures.value ∙ c.if-is_ok.false in
     record {
-      went = went-behind c.args.floor.now c.args.player.now c.make.new.player c.end_part.new.player (when-err c.make.result c.make.ensures.same err) (when-err c.make.result c.make.ensures.same_actor err) c.make.ensures.lists c.end_part.ensures.went;
+      went = went-behind c.args.floor.now c.args.player.now c.make.new.player c.end_part.new.player (when-err c.make.result c.make.ensures.same err) (when-err c.make.result c.make.ensures.same_actor err) (when-err c.make.result c.make.ensures.uncounted err) c.make.ensures.lists c.end_part.ensures.went;
     }

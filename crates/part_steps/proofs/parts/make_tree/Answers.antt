@@ -20,7 +20,7 @@ make-requires-clause-kept g c = tree-kept c.args.floor.now.hierarchy c.args.play
 pub returns-then-is_ok : goal.returns-then-is_ok
 returns-then-is_ok g c =
     let made = when-ok c.make.result c.make.ensures.made (sym c.is_ok.ensures.value ∙ c.if-is_ok.true) in
-    record { went = went-tree c.args.floor.now c.args.player.now c.requires.seated c.args.step c.make.new.player c.make.ensures.stands c.make.ensures.lists made }
+    record { went = went-tree c.args.floor.now c.args.player.now c.requires.seated c.args.step c.make.new.player c.requires.row c.make.ensures.stands c.make.ensures.lists made }
 
 pub end_part-requires-clause-ends : goal.end_part-requires-clause-ends
 end_part-requires-clause-ends g c =
@@ -31,5 +31,5 @@ pub returns : goal.returns
 returns g c =
     let err = sym c.is_ok.ensures.value ∙ c.if-is_ok.false in
     record {
-      went = went-behind c.args.floor.now c.args.player.now c.make.new.player c.end_part.new.player (when-err c.make.result c.make.ensures.same err) (when-err c.make.result c.make.ensures.same_actor err) c.make.ensures.lists c.end_part.ensures.went;
+      went = went-behind c.args.floor.now c.args.player.now c.make.new.player c.end_part.new.player (when-err c.make.result c.make.ensures.same err) (when-err c.make.result c.make.ensures.same_actor err) (when-err c.make.result c.make.ensures.uncounted err) c.make.ensures.lists c.end_part.ensures.went;
     }

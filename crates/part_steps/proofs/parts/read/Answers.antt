@@ -1,4 +1,4 @@
-use Rattle.std.proofs.Common.{◌∙◌, ℕ, List, [], ◌∷◌, Option, Some, sym, ap, subst, arith}
+use Rattle.std.proofs.Common.{ℕ, List, [], ◌∷◌, Option, Some, sym, ap, subst, arith}
 use Rattle.seat_steps.specs.core_steps.specs.Trees.{tree_places}
 use Rattle.seat_steps.specs.core_steps.specs.declared.trees.TreeStep.TheVariants.{ReadGate}
 use Rattle.part_steps.specs.{Goings.WentOn, Parts.{CanEndPart, IsTreeSure}}

@@ -1,5 +1,5 @@
 use Rattle.std.proofs.Common.{◌∙◌, sym, subst}
-use Rattle.part_steps.specs.Parts.{CanEndPart}
+use Rattle.part_steps.specs.Parts.{CanEndPart, IsForRow}
 use Rattle.part_steps.proofs.{PartsMade.{tree-at, went-taken}, PartsSure.tree-on, Takings.numbers-taken}
 use Rattle.part_steps.proofs.parts.take_for_tree.Goals as goal
 use Rattle.seat_steps.specs.volap_cell.specs.{Values.actor_of, declared.actor.Actor.Actor}
@@ -15,6 +15,9 @@ make_tree-requires-clause-ready g c = tree-on c.take.ensures.took c.args.step c.
 
 pub make_tree-requires-clause-ends : goal.make_tree-requires-clause-ends
 make_tree-requires-clause-ends g c = λ fails. subst (λ (x : Actor). CanEndPart (actor_of x)) (sym c.take.ensures.took.same.actor) (c.requires.ends fails)
+
+pub make_tree-requires-clause-row : goal.make_tree-requires-clause-row
+make_tree-requires-clause-row g c = subst (λ (x : Actor). IsForRow c.args.step (actor_of x)) (sym c.take.ensures.took.same.actor) c.requires.row
 
 pub returns : goal.returns
 returns g c = record { went = went-taken c.args.floor.now c.args.player.now c.take.new.player c.make_tree.new.player c.take.ensures.took.same c.make_tree.ensures.went }

@@ -1,7 +1,7 @@
-use Rattle.std.proofs.Common.{ℕ, List, [], ◌∷◌, Option, Some, sym, ap, subst, arith}
+use Rattle.std.proofs.Common.{ℕ, List, [], ◌∷◌, Option, Some, sym, ap, subst}
 use Rattle.seat_steps.specs.core_steps.specs.Trees.{tree_places}
 use Rattle.seat_steps.specs.core_steps.specs.declared.trees.TreeStep.TheVariants.{VisitBlock}
-use Rattle.part_steps.specs.{Goings.WentOn, Parts.{CanEndPart, IsTreeSure}}
+use Rattle.part_steps.specs.Parts.{CanEndPart, IsTreeSure}
 use Rattle.seat_steps.specs.{Floors.IsSeated, declared.floor.Player.Player}
 use Rattle.part_steps.proofs.{PartsMade.tree-at, PartsSure.{visit-ends, visit-sure}, Takings.told-held}
 use Rattle.part_steps.proofs.parts.visit.Goals as goal
