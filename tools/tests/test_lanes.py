@@ -83,15 +83,15 @@ class Lanes(unittest.TestCase):
         self.assertEqual((said.out, said.err, said.status), (SPLIT, "", 0))
 
     def test_the_kept_runs_have_the_answers_of_the_examples(self):
-        for name in ("split.seed3", "load.seed11"):
+        for name in ("split.seed3", "load.seed11", "tour.seed1"):
             answers = text_of(HERE, name + ".told").partition("== history\n")[0].partition("\n")[2]
             self.assertEqual(answers, text_of(EXAMPLES, name + ".txt"))
 
     def test_the_tour_shows_this_picture(self):
         tour = text_of(ROOT, "docs", "tour.md")
-        if "tools/lanes examples/split.csv --seed 3" not in tour:
+        if "tools/lanes examples/tour.csv --seed 1" not in tour:
             self.skipTest("docs/tour.md shows no lanes")
-        for line in SPLIT.split("\n")[1:]:
+        for line in drawn("tour.csv", "tour.seed1.told").out.split("\n")[1:]:
             self.assertIn(line, tour)
 
     def test_three_servers_at_once(self):
