@@ -48,11 +48,11 @@ pub commit_lot-requires-clause-event : goal.commit_lot-requires-clause-event
 commit_lot-requires-clause-event g c =
     let holds = c.requires.holds in
     let made = c.made_over-made in
-    let b : Actor = record made.new.actor { went = c.after.result } in
+    let b : Actor = record made.new.actor { went = c.after-actor.result } in
     let new = g.L.Lot.cells made.result.1 in
     let ok = sym c.is_ok-2.ensures.value ∙ c.if-is_ok.true in
     let over = made-of (c.requires.alike made.result.1) (over-held (c.requires.alike c.lift_lot.result ∙ c.lift_lot.ensures.cells) made.ensures) in
-    let counted = counted-of c.of-before.result (actor_of c.args.actor.now) (actor_of b) c.args.actor.now.went c.after.result c.is_ok.result c.of-before.ensures c.after.ensures (c.is_ok.ensures.value ∙ ok) in
+    let counted = counted-of c.of-before.result (actor_of c.args.actor.now) (actor_of b) c.args.actor.now.went c.after-actor.result c.is_ok.result c.of-before.ensures c.after-actor.ensures (c.is_ok.ensures.value ∙ ok) in
     subst (λ (v : View Cell Actor Event). (x : Actor) × (value_of v.actors c.args.number ≡ some x) × Goes (sight v) new c.args.number x b) (sym (ap (λ (z : SeatValue Cell Actor Event). z.view) c.lift_lot.ensures.seat))
     (holds.one.last, holds.one.has, event-of holds.one holds.possible c.requires.at new b c.requires.sees (when-ok made.result.0 over.went ok) counted over.numbers over.each)
 
@@ -60,7 +60,7 @@ pub commit_lot-requires-clause-left : goal.commit_lot-requires-clause-left
 commit_lot-requires-clause-left g c =
     let row = g.S.CellStep.places c.args.what in
     let made = c.made_over-made in
-    let b : Actor = record made.new.actor { went = c.after.result } in
+    let b : Actor = record made.new.actor { went = c.after-actor.result } in
     let new = g.L.Lot.cells made.result.1 in
     let ok = sym c.is_ok-2.ensures.value ∙ c.if-is_ok.true in
     let over = made-of (c.requires.alike made.result.1) (over-held (c.requires.alike c.lift_lot.result ∙ c.lift_lot.ensures.cells) made.ensures) in
@@ -71,7 +71,7 @@ pub returns-then-is_ok-clause-holds : goal.returns-then-is_ok-clause-holds
 returns-then-is_ok-clause-holds g c =
     let holds = c.requires.holds in
     let made = c.made_over-made in
-    let b : Actor = record made.new.actor { went = c.after.result } in
+    let b : Actor = record made.new.actor { went = c.after-actor.result } in
     let new = g.L.Lot.cells made.result.1 in
     let ok = sym c.is_ok-2.ensures.value ∙ c.if-is_ok.true in
     let over = made-of (c.requires.alike made.result.1) (over-held (c.requires.alike c.lift_lot.result ∙ c.lift_lot.ensures.cells) made.ensures) in
@@ -83,11 +83,11 @@ pub returns-then-is_ok-clause-went : goal.returns-then-is_ok-clause-went
 returns-then-is_ok-clause-went g c =
     let holds = c.requires.holds in
     let made = c.made_over-made in
-    let b : Actor = record made.new.actor { went = c.after.result } in
+    let b : Actor = record made.new.actor { went = c.after-actor.result } in
     let new = g.L.Lot.cells made.result.1 in
     let ok = sym c.is_ok-2.ensures.value ∙ c.if-is_ok.true in
     let over = made-of (c.requires.alike made.result.1) (over-held (c.requires.alike c.lift_lot.result ∙ c.lift_lot.ensures.cells) made.ensures) in
-    let counted = counted-of c.of-before.result (actor_of c.args.actor.now) (actor_of b) c.args.actor.now.went c.after.result c.is_ok.result c.of-before.ensures c.after.ensures (c.is_ok.ensures.value ∙ ok) in
+    let counted = counted-of c.of-before.result (actor_of c.args.actor.now) (actor_of b) c.args.actor.now.went c.after-actor.result c.is_ok.result c.of-before.ensures c.after-actor.ensures (c.is_ok.ensures.value ∙ ok) in
     as-ok made.result.0 (record {
       new = new;
       same_numbers = over.numbers;
@@ -104,12 +104,12 @@ returns-else-is_ok-clause-holds g c =
     let holds = c.requires.holds in
     let made = c.made_over-made in
     let refused = sym c.is_ok-2.ensures.value ∙ c.if-is_ok.false in
-    let b : Actor = record made.new.actor { went = c.after.result } in
-    let uncounted = uncounted-of c.of-before.result (actor_of c.args.actor.now) (actor_of b) c.args.actor.now.went c.after.result c.is_ok.result c.of-before.ensures c.after.ensures (c.is_ok.ensures.value ∙ refused) in
+    let b : Actor = record made.new.actor { went = c.after-actor.result } in
+    let uncounted = uncounted-of c.of-before.result (actor_of c.args.actor.now) (actor_of b) c.args.actor.now.went c.after-actor.result c.is_ok.result c.of-before.ensures c.after-actor.ensures (c.is_ok.ensures.value ∙ refused) in
     same-holds holds c.put_lot_back.new.seat b (back-same holds c.lift_lot.new.seat c.put_lot_back.new.seat c.lift_lot.ensures.seat c.put_lot_back.ensures.seat) (when-err made.result.0 made.ensures.refused refused).1 uncounted
 
 pub returns-else-is_ok-clause-uncounted : goal.returns-else-is_ok-clause-uncounted
 returns-else-is_ok-clause-uncounted g c =
     let made = c.made_over-made in
     let refused = sym c.is_ok-2.ensures.value ∙ c.if-is_ok.false in
-    as-err made.result.0 (uncounted-of c.of-before.result (actor_of c.args.actor.now) (actor_of made.new.actor) c.args.actor.now.went c.after.result c.is_ok.result c.of-before.ensures c.after.ensures (c.is_ok.ensures.value ∙ refused))
+    as-err made.result.0 (uncounted-of c.of-before.result (actor_of c.args.actor.now) (actor_of made.new.actor) c.args.actor.now.went c.after-actor.result c.is_ok.result c.of-before.ensures c.after-actor.ensures (c.is_ok.ensures.value ∙ refused))
