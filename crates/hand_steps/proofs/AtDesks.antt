@@ -17,7 +17,7 @@ use Rattle.session_steps.specs.seat_steps.specs.{Booked.{IsAsBefore, IsDue, IsUn
 use Rattle.turn_table.proofs.Numbered.{starts_self}
 use Rattle.turn_table.specs.{Numbered.{Extends, value_of}, Seat.cell_count}
 use Rattle.session_steps.specs.volap_cell.proofs.Cells.Numbers.{tag-desk}
-use Rattle.session_steps.specs.volap_cell.specs.{Cells.{cell_of, desk_in}, Kinds.Does, Numbering.tag_at, Setting.{Setting, desk_cell}, ShardKinds.{IsDeskFor, may_take}, Steps.Makes, Values.{ActorValue, actor_of}, World.{Change, World}, declared.role.Role.Role, declared.role.Role.TheVariants.Hand}
+use Rattle.session_steps.specs.volap_cell.specs.{Cells.{cell_of, desk_in}, Kinds.Does, Numbering.tag_at, Setting.{Setting, desk_cell}, ShardKinds.{IsDeskFor, may_take}, Steps.Makes, Values.ActorValue, World.{Change, World}, declared.role.Role.Role, declared.role.Role.TheVariants.Hand}
 use Rattle.session_steps.specs.volap_cell.specs.declared.kind.Kind.TheVariants as kind
 use Rattle.session_steps.specs.volap_turns.specs.Rows.{IsThere}
 

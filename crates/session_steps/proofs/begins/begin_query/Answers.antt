@@ -1,15 +1,14 @@
-use Rattle.std.proofs.Common.{◌≡◌, ◌∙◌, List, [], ap, refl, subst, sym, arith}
+use Rattle.std.proofs.Common.{◌≡◌, ◌∙◌, [], ap, refl, subst, sym, arith}
 use Rattle.std.specs.Prelude.{is_some}
 use mathlib.Core.Option.{none}
 use Rattle.part_steps.specs.core_steps.specs.{Begins.{begin_asks, begin_places}, declared.begins.BeginStep.TheVariants.Query}
 use Rattle.part_steps.proofs.Keeping.{begin-kept}
 use Rattle.session_steps.proofs.{Beginning.{began-at, query-begun}, Servers.{books-still, places-are, query-due}, Since.unchanged-back}
 use Rattle.part_steps.specs.seat_steps.proofs.{Since.{as-before, before-unchanged, looked, unchanged, unchanged-on}, WithLedger.{due-still, first-there, ledger-off, up-two}}
-use Rattle.row_ledger.specs.declared.event.Event.{Event}
-use Rattle.part_steps.specs.seat_steps.specs.{Booked.{IsDue, IsUnchanged}, Floors.IsSeated, declared.floor.Player.Player}
+use Rattle.part_steps.specs.seat_steps.specs.{Booked.IsDue, Floors.IsSeated, declared.floor.Player.Player}
 use Rattle.session_steps.specs.Begins.{HasAsked}
-use Rattle.turn_table.specs.Numbered.{Extends, value_of}
-use Rattle.part_steps.specs.volap_cell.specs.{ImageKinds.IsFree, Values.{ActorValue, actor_of}}
+use Rattle.turn_table.specs.Numbered.{value_of}
+use Rattle.part_steps.specs.volap_cell.specs.{ImageKinds.IsFree, Values.ActorValue}
 use Rattle.session_steps.proofs.begins.begin_query.Goals as goal
 
 pub is_empty_at-requires-clause-held : goal.is_empty_at-requires-clause-held

@@ -1,10 +1,9 @@
-use Rattle.std.proofs.Common.{◌≡◌, ◌∙◌, List, [], length, ap, sym, subst, arith}
+use Rattle.std.proofs.Common.{◌≡◌, ◌∙◌, List, [], length, ap, sym, arith}
 use Rattle.row_ledger.specs.declared.event.Event.{Event}
 use Rattle.part_steps.specs.seat_steps.proofs.{Around.{around, within}, Since.{as-before, looked, unchanged}, WithLedger.first-there}
 use Rattle.session_steps.proofs.{Heard.held-seen, Since.unchanged-back}
-use Rattle.part_steps.specs.seat_steps.specs.{Booked.IsUnchanged, declared.floor.Player.Player}
-use Rattle.turn_table.specs.Numbered.{Extends}
-use Rattle.part_steps.specs.volap_cell.specs.{Setting.ledger_cell, Values.actor_of}
+use Rattle.part_steps.specs.seat_steps.specs.declared.floor.Player.{Player}
+use Rattle.part_steps.specs.volap_cell.specs.Setting.{ledger_cell}
 use Rattle.session_steps.proofs.hears.hear.Goals as goal
 
 pub take_first-requires-clause-cell : goal.take_first-requires-clause-cell
