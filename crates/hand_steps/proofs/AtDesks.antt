@@ -11,12 +11,13 @@ use Rattle.hand_steps.specs.Hands.{IsIdleHand, NoneCounted, found_on}
 use Rattle.hand_steps.specs.declared.hands.Found.TheVariants as found
 use Rattle.query_router.specs.{Desk.{DeskValue, waits_for}, declared.part.Part.Part}
 use Rattle.row_ledger.specs.declared.event.Event.{Event}
+use Rattle.session_steps.proofs.Since.{unchanged-back}
 use Rattle.session_steps.specs.seat_steps.proofs.{Around.{around, seen-there}, Since.as-before}
 use Rattle.session_steps.specs.seat_steps.specs.{Booked.{IsAsBefore, IsDue, IsUnchanged}, Floors.{IsAround, IsSeated, Stands}, Looks.Sees, Takes.GaveAll, declared.floor.{Floor.Floor, Player.Player}}
 use Rattle.turn_table.proofs.Numbered.{starts_self}
 use Rattle.turn_table.specs.{Numbered.{Extends, value_of}, Seat.cell_count}
 use Rattle.session_steps.specs.volap_cell.proofs.Cells.Numbers.{tag-desk}
-use Rattle.session_steps.specs.volap_cell.specs.{Cells.{cell_of, desk_in}, Kinds.Does, Numbering.tag_at, Setting.{Setting, desk_cell}, ShardKinds.{IsDeskFor, may_take}, Steps.Makes, Values.{ActorValue, actor_of}, World.{Change, World}, declared.role.Role.Role, declared.role.Role.TheVariants.Hand}
+use Rattle.session_steps.specs.volap_cell.specs.{Cells.{cell_of, desk_in}, Kinds.Does, Numbering.tag_at, Setting.{Setting, desk_cell}, ShardKinds.{IsDeskFor, may_take}, Steps.Makes, Values.ActorValue, World.{Change, World}, declared.role.Role.Role, declared.role.Role.TheVariants.Hand}
 use Rattle.session_steps.specs.volap_cell.specs.declared.kind.Kind.TheVariants as kind
 use Rattle.session_steps.specs.volap_turns.specs.Rows.{IsThere}
 
@@ -89,17 +90,10 @@ desk-there f p desk server seated low is =
 
 -- The desk was held, and given back.
 
-gave-unchanged : {was mid now : Player} → IsUnchanged was mid → GaveAll mid now → IsUnchanged was now
-gave-unchanged {was} {mid} {now} same gave = record {
-  number = gave.number ∙ same.number;
-  actor = ap actor_of gave.actor ∙ same.actor;
-  seen = subst (λ (l : List Event). Extends l was.seat.view.seen) (sym gave.seen) same.seen;
-}
-
 module _ (f : Floor) {was mid now : Player} (same : IsUnchanged was mid) (stands : Stands f now) (gave : GaveAll mid now) where
   -- the actor is as before
   pub gave-back : IsAsBefore f was now
-  gave-back = as-before f stands (gave-unchanged same gave)
+  gave-back = as-before f stands (unchanged-back same gave)
 
   -- and no session was counted there, where none was seen
   pub was-none : (server worker desk : ℕ) → IsSeated f mid → desk ≡ desk_cell (setting_by [] f.with) server → IsThere mid.seat.view.held desk → Sees mid desk (λ cell. found.NoSession ≡ found_on worker (desk_in cell)) → NoneCounted f server was.number was.seat.view.seen now.seat.view.seen

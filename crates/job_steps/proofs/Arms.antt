@@ -22,6 +22,7 @@ pub gave-back : (f : Floor) {p mid now : Player} → IsUnchanged p mid → Stand
 gave-back f {p} {mid} {now} same stands gave = as-before f stands (unchanged-on same (record {
   number = gave.number;
   actor = ap (λ (x : Actor). actor_of x) gave.actor;
+  went = ap (λ (x : Actor). x.went) gave.actor;
   seen = subst (λ l. Extends l mid.seat.view.seen) (sym gave.seen) (starts_self mid.seat.view.seen);
 }))
 
@@ -76,4 +77,4 @@ stop-came f p {now} how_it_ends same has x is_job ends left = by has.work has.co
     by (work_is.Balance balance) command kind = record { same = same; of = has.of; balance = balance; command = command; job = x; job_is = is_job; left = left }
 
 pub still-before : {f : Floor} {p : Player} → Stands f p → IsAsBefore f p p
-still-before {f} {p} stands = record { stands = stands; number = refl; actor = refl; seen = starts_self p.seat.view.seen }
+still-before {f} {p} stands = record { stands = stands; number = refl; actor = refl; went = refl; seen = starts_self p.seat.view.seen }

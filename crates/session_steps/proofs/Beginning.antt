@@ -1,5 +1,6 @@
 -- What a session's beginnings and notes come to.
-use Rattle.std.proofs.Common.{◌≡◌, ◌∙◌, ◌≤◌, ℕ, ℤ, false, List, length, Some, refl, sym, ap, subst}
+use Rattle.std.proofs.Common.{◌≡◌, ◌∙◌, ◌≤◌, ℕ, ℤ, false, List, length, Some, is_some, refl, sym, ap, subst}
+use Rattle.core_counts.specs.Counting.{went_if}
 use Rattle.part_steps.specs.core_image.specs.Told.{asked_by, begun_by, refused_by, unknown_by}
 use Rattle.part_steps.specs.core_steps.specs.{Begins.{begin_kind, begin_places, begin_tells}, Notes.{note_kind, note_places, note_tells}}
 use Rattle.part_steps.specs.core_steps.specs.declared.begins.BeginStep.TheVariants as begin
@@ -33,16 +34,18 @@ module _ {f : Floor} {See : Setting → World → ℕ → Type 0} {p was now : P
         actor = both.1 ∙ ap (λ (a : ActorValue). record a { command = doing of (work_is.Insert (row_at of at measures) false); seen = length now.seat.view.seen }) (mid-same p same booked).actor;
       }
 
-  pub query-begun : (desk image : ℕ) (filter : List Pick)
+  pub query-begun : IsFree (actor_of p.actor) → (desk image : ℕ) (filter : List Pick)
       → (booked : HasBooked f (begin_kind (begin.Query desk image filter)) See (begin_tells (begin.Query desk image filter)) (begin_places (begin.Query desk image filter)) was now)
       → HasAsked f (length (booked.mid).seat.view.seen) filter p now
-  query-begun desk image filter booked =
+  query-begun free desk image filter booked =
       let of = length (booked.mid).seat.view.seen in
       let both = query-begins booked.whole desk image filter booked.at booked.made in
+      let none = (still-free (mid-same p same booked) free).command in
       record {
         pushed = pushed-since p same booked (asked_by filter) both.0 noted;
         position = refl;
         actor = both.1 ∙ ap (λ (a : ActorValue). record a { command = doing of work_is.Query; seen = length now.seat.view.seen }) (mid-same p same booked).actor;
+        went = (booked.made).counted ∙ (λ k. went_if (is_some (none k)) (is_some (actor_of (booked.mid).actor).errand) (is_some (actor_of now.actor).errand) (booked.mid).actor.went);
       }
 
   pub unknown-told : IsFree (actor_of p.actor) → (dim : ℕ) → HasBooked f (note_kind (note.Unknown dim)) See (note_tells (note.Unknown dim)) (note_places (note.Unknown dim)) was now → HasNoted f (unknown_by dim) p now

@@ -49,11 +49,18 @@ module _ (h : List Dimension) (a b : ActorValue) where
       (work_is.Insert does.row true, (true, refl), does.actor_is ∙ (λ k. record a { command = doing does.of (work_is.Insert does.row true); errand = sym (ap (λ (z : ActorValue). z.errand) does.actor_is) k }))
   routed-further cs does = absurd does
 
+  routed-errand : (cs : List Change) → Does h kind.Route cs a b → b.errand ≡ a.errand
+  routed-errand (d ∷ i ∷ []) does = ap (λ (z : ActorValue). z.errand) does.actor_is
+  routed-errand cs does = absurd does
+
 pub take-further : {h : List Dimension} {changes : List Change} {a b : ActorValue} (desk : ℕ) → Makes h (part_kind (TakePart desk)) changes a b → IsFurther a b
 take-further {h} {changes} {a} {b} desk makes = taken-further h a b changes makes.does
 
 pub route-further : {h : List Dimension} {changes : List Change} {a b : ActorValue} (desk image : ℕ) → Makes h (book_kind (book.Route desk image)) changes a b → IsFurther a b
 route-further {h} {changes} {a} {b} desk image makes = routed-further h a b changes makes.does
+
+pub route-errand : {h : List Dimension} {changes : List Change} {a b : ActorValue} (desk image : ℕ) → Makes h (book_kind (book.Route desk image)) changes a b → b.errand ≡ a.errand
+route-errand {h} {changes} {a} {b} desk image makes = routed-errand h a b changes makes.does
 
 -- Steps that end a command.
 

@@ -1,8 +1,9 @@
 -- Histories that go on: what an earlier part of one is, and where its events stand.
-use Rattle.std.proofs.Common.{◌≡◌, ℕ, ◌==◌, ◌≤◌, ◌||◌, Bool, true, false, not, IsTrue, List, [], ◌∷◌, ◌++◌, length, Option, Some, None}
+use Rattle.std.proofs.Common.{◌≡◌, ◌∙◌, ℕ, ◌==◌, ◌≤◌, ◌||◌, Bool, true, false, not, IsTrue, List, [], ◌∷◌, ◌++◌, length, Option, Some, None, option_and_then, refl, ap}
 use Rattle.std.specs.List.{cons_option, list_any}
-use Rattle.row_ledger.specs.{Kept.KeepsRight, Past.{event_at, failed, failed_in, is_kept}, Right.{IsRight, Opens, Stands}, Site.Site, declared.event.Event.Event}
+use Rattle.row_ledger.specs.{Kept.KeepsRight, Past.{Query, event_at, failed, failed_in, is_kept, query_at, query_in}, Right.{IsRight, Opens, Stands}, Site.Site, declared.event.Event.Event}
 use Rattle.row_ledger.proofs.{Before.at-later, Positions.event_at-here, SettledAnswer.EachEvent-later, Within.StandsRight-within}
+use Rattle.turn_table.specs.Numbered.{Extends}
 
 not-or : (a b : Bool) → not (a || b) ≡ true → not b ≡ true
 not-or true b e = absurd (cc)
@@ -28,3 +29,11 @@ right-earlier site placed newer h keeps opened = StandsRight-within site placed 
 -- an event stands where it was pushed
 pub at-pushed : (newer older : List Event) (e : Event) → event_at (newer ++ e ∷ older) (length older) ≡ Some e
 at-pushed newer older e = at-later newer (e ∷ older) (length older) e (event_at-here e older)
+
+-- a query that has begun stands in each history that goes on
+pub query-on : (now was : List Event) → Extends now was → (p : ℕ) (q : Query) → query_at was p ≡ Some q → query_at now p ≡ Some q
+query-on now was longer p q asked = ap (λ (h : List Event). query_at h p) longer.1 ∙ there (event_at was p) refl asked
+  where
+    there : (o : Option Event) → event_at was p ≡ o → option_and_then query_in o ≡ Some q → query_at (longer.0 ++ was) p ≡ Some q
+    there None at is = absurd (cc)
+    there (Some e) at is = ap (option_and_then query_in) (at-later longer.0 was p e at) ∙ is

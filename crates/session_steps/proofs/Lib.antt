@@ -4,6 +4,7 @@ pub mod Counted
 pub mod DuesOpen
 pub mod Emptied
 pub mod Ending
+pub mod FewParts
 pub mod Grown
 pub mod Heard
 pub mod OneHeld

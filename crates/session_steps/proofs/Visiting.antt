@@ -56,7 +56,7 @@ stands-still f was now stands seated same ranks = record { seated = seated; bare
 pub has-visited : (f : Floor) (was mid now : Player) (block : ℕ) → IsSeated f mid → IsSameActor was mid → Stands f now → Extends now.seat.view.seen mid.seat.view.seen → HasMade f.hierarchy BlockVisit (λ s w n. ⊤) (λ a was now. ⊤) (one_at block) mid now
     → HasVisited f block was now
 has-visited f was mid now block seated same stands seen made = record {
-  went = went-taken f was mid now same (went-tree f mid seated (VisitBlock block) now stands seen made);
+  went = went-taken f was mid now same (went-tree f mid seated (VisitBlock block) now tt stands seen made);
   visit = (
       let before = cells_for mid.seat.view.held (one_at block) in
       let after = cells_for made.new (one_at block) in

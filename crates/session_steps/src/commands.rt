@@ -1,5 +1,5 @@
 //! The step that is due for the insert or the query that a session has open, while it is at no part.
-ghost use Rattle.std.specs.Prelude.{ℕ, ◌≡◌, ◌<◌, ◌∷◌, [], None, OnErr, OnOk, Some};
+ghost use Rattle.std.specs.Prelude.{ℕ, ◌≡◌, ◌∷◌, [], None, OnErr, OnOk, Some};
 ghost use Rattle.part_steps.specs.core_steps.specs.Books.{book_asks, book_places};
 ghost use Rattle.part_steps.specs.core_steps.specs.Parts.{part_asks, part_places};
 ghost use Rattle.part_steps.specs.core_steps.specs.declared.books.BookStep.TheVariants.{Answer, Route};
@@ -111,7 +111,7 @@ fn lay<R: Wait>(
     image: u32,
 ) -> Result<(), AllocError>
     requires seated { IsSeated floor.now player.old }
-    requires no_part { (actor_of player.old.actor).errand ≡ None }
+    requires opened { HasOpen player.old }
     requires books { AreBooksOf floor.now player.old desk image }
     requires ranks { player.old.seat.ranks ≡ (desk, Some 4) ∷ [] }
     requires due { IsDue floor.now player.old (book_places (Route desk image)) (book_asks (Route desk image)) }
@@ -204,11 +204,12 @@ fn go_on_at_desk<R: Wait>(
 /// The session takes a part of its command from the desk. That of a query has read no gate.
 pub(crate) fn take_part(alloc: Global, floor: &Floor, player: &mut Player, desk: u32)
     requires seated { IsSeated floor.now player.old }
-    requires behind { 0 < desk }
+    requires opened { HasOpen player.old }
+    requires books { (image : ℕ) × AreBooksOf floor.now player.old desk image }
     requires ranks { player.old.seat.ranks ≡ (desk, Some 4) ∷ [] }
     requires due { IsDue floor.now player.old (part_places (TakePart desk)) (part_asks (TakePart desk)) }
     ensures still { (p : Player) → IsUnchanged p player.old → IsStillOpen floor.now p player.new }
-    ensures unread { (of image : ℕ) → AreBooksOf floor.now player.old desk image → (actor_of player.old.actor).command ≡ doing of Query → IsUnread (actor_of player.new.actor) }
+    ensures unread { (of : ℕ) → (actor_of player.old.actor).command ≡ doing of Query → IsUnread (actor_of player.new.actor) }
 {
     let _ = make(alloc, floor, player, PartStep::TakePart { desk });
 }

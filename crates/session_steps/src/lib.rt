@@ -6,6 +6,8 @@
 //! Where no memory is found for it the session is as before. `go_on_with_command` goes one step further, or
 //! ends the command with the newest event of a right history, in which the session has begun nothing else
 //! (`comes`). It answers `Waits` where another session has the desk, or another actor a part.
+//! By the end of a query no more parts of it were ended or sent on than there are shards, splits and moves
+//! for (`few` in `HasEnded`).
 //!
 //! `come` and `leave` count the session at its desk, `hear` sees the whole history, `try_visit` visits a
 //! block if its turn is free (`visited`, `busy`): these take no memory.

@@ -30,7 +30,7 @@ pub give_up-requires-clause-opened : goal.give_up-requires-clause-opened
 give_up-requires-clause-opened g c =
     let was = c.args.player.now in
     let now = c.make.new.player in
-    let same : IsUnchanged was now = record { number = c.in-Err.ensures.same; actor = c.in-Err.ensures.same_actor; seen = subst (λ l. Extends l was.seat.view.seen) (sym c.in-Err.ensures.same_seen) (starts_self was.seat.view.seen) } in
+    let same : IsUnchanged was now = record { number = c.in-Err.ensures.same; actor = c.in-Err.ensures.same_actor; went = c.in-Err.ensures.uncounted; seen = subst (λ l. Extends l was.seat.view.seen) (sym c.in-Err.ensures.same_seen) (starts_self was.seat.view.seen) } in
     opened-since same c.requires.opened
 
 pub give_up-requires-clause-due : goal.give_up-requires-clause-due
@@ -40,5 +40,5 @@ pub returns-in-Err : goal.returns-in-Err
 returns-in-Err g c =
     let was = c.args.player.now in
     let now = c.make.new.player in
-    let still : IsUnchanged was now = record { number = c.in-Err.ensures.same; actor = c.in-Err.ensures.same_actor; seen = subst (λ l. Extends l was.seat.view.seen) (sym c.in-Err.ensures.same_seen) (starts_self was.seat.view.seen) } in
+    let still : IsUnchanged was now = record { number = c.in-Err.ensures.same; actor = c.in-Err.ensures.same_actor; went = c.in-Err.ensures.uncounted; seen = subst (λ l. Extends l was.seat.view.seen) (sym c.in-Err.ensures.same_seen) (starts_self was.seat.view.seen) } in
     record { came = λ p same has. c.give_up.ensures.came p (unchanged-on same still) has }

@@ -19,4 +19,4 @@ pub returns-clause-went : goal.returns-clause-went
 returns-clause-went c = map-ok c.make.result (λ made. goes-on c.args.floor.now c.args.step c.requires.quiet c.requires.opened.no_part c.make.ensures.stands c.make.ensures.lists made) c.make.ensures.made
 
 pub returns-clause-same : goal.returns-clause-same
-returns-clause-same c = map-err c.make.result (λ same. as-before c.args.floor.now c.make.ensures.stands same) (refused-unchanged c.make.result _ _ c.make.ensures.same c.make.ensures.same_actor c.make.ensures.same_seen)
+returns-clause-same c = map-err c.make.result (λ same. as-before c.args.floor.now c.make.ensures.stands same) (refused-unchanged c.make.result _ _ c.make.ensures.same c.make.ensures.same_actor c.make.ensures.uncounted c.make.ensures.same_seen)

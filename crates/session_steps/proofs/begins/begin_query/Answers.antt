@@ -1,15 +1,14 @@
-use Rattle.std.proofs.Common.{◌≡◌, ◌∙◌, List, [], ap, refl, subst, sym, arith}
+use Rattle.std.proofs.Common.{◌≡◌, ◌∙◌, [], ap, refl, subst, sym, arith}
 use Rattle.std.specs.Prelude.{is_some}
 use mathlib.Core.Option.{none}
 use Rattle.part_steps.specs.core_steps.specs.{Begins.{begin_asks, begin_places}, declared.begins.BeginStep.TheVariants.Query}
 use Rattle.part_steps.proofs.Keeping.{begin-kept}
-use Rattle.session_steps.proofs.{Beginning.{began-at, query-begun}, Servers.{books-still, places-are, query-due}}
+use Rattle.session_steps.proofs.{Beginning.{began-at, query-begun}, Servers.{books-still, places-are, query-due}, Since.unchanged-back}
 use Rattle.part_steps.specs.seat_steps.proofs.{Since.{as-before, before-unchanged, looked, unchanged, unchanged-on}, WithLedger.{due-still, first-there, ledger-off, up-two}}
-use Rattle.row_ledger.specs.declared.event.Event.{Event}
-use Rattle.part_steps.specs.seat_steps.specs.{Booked.{IsDue, IsUnchanged}, Floors.IsSeated, declared.floor.Player.Player}
+use Rattle.part_steps.specs.seat_steps.specs.{Booked.IsDue, Floors.IsSeated, declared.floor.Player.Player}
 use Rattle.session_steps.specs.Begins.{HasAsked}
-use Rattle.turn_table.specs.Numbered.{Extends, value_of}
-use Rattle.part_steps.specs.volap_cell.specs.{ImageKinds.IsFree, Values.{ActorValue, actor_of}}
+use Rattle.turn_table.specs.Numbered.{value_of}
+use Rattle.part_steps.specs.volap_cell.specs.{ImageKinds.IsFree, Values.ActorValue}
 use Rattle.session_steps.proofs.begins.begin_query.Goals as goal
 
 pub is_empty_at-requires-clause-held : goal.is_empty_at-requires-clause-held
@@ -52,12 +51,12 @@ make_booked-requires-clause-kept g c q e =
 pub there-requires : goal.there-requires
 there-requires g c =
     let same = unchanged-on (looked (unchanged c.take_first.ensures.took.same) c.is_empty_at.ensures.same) (unchanged c.take_image.ensures.took.same) in
-    ap (λ (a : ActorValue). is_some a.command) (query-begun same c.requires.begins.noted _ _ c.args.filter c.in-Ok.ensures.booked).actor
+    ap (λ (a : ActorValue). is_some a.command) (query-begun same c.requires.begins.noted c.requires.begins.free _ _ c.args.filter c.in-Ok.ensures.booked).actor
 
 pub returns-in-Ok : goal.returns-in-Ok
 returns-in-Ok g c =
     let same = unchanged-on (looked (unchanged c.take_first.ensures.took.same) c.is_empty_at.ensures.same) (unchanged c.take_image.ensures.took.same) in
-    let begun = query-begun same c.requires.begins.noted _ _ c.args.filter c.in-Ok.ensures.booked in
+    let begun = query-begun same c.requires.begins.noted c.requires.begins.free _ _ c.args.filter c.in-Ok.ensures.booked in
     let of = began-at _ _ c.make_booked.new.player _ (ap (λ (a : ActorValue). a.command) begun.actor) c.there.ensures in
     record { begun = subst (λ n. HasAsked c.args.floor.now n c.args.filter c.args.player.now c.make_booked.new.player) (sym of) begun }
 
@@ -69,10 +68,4 @@ returns-in-Err g c =
 pub returns-then-not-is_empty_at : goal.returns-then-not-is_empty_at
 returns-then-not-is_empty_at g c =
     let same = looked (unchanged c.take_first.ensures.took.same) c.is_empty_at.ensures.same in
-    let gave = c.give_all.ensures.gave in
-    let behind : IsUnchanged c.args.player.now c.give_all.new.player = record {
-      number = gave.number ∙ same.number;
-      actor = ap actor_of gave.actor ∙ same.actor;
-      seen = subst (λ (l : List Event). Extends l c.args.player.now.seat.view.seen) (sym gave.seen) same.seen;
-    } in
-    record { begun = (refl, as-before c.args.floor.now c.give_all.ensures.stands behind) }
+    record { begun = (refl, as-before c.args.floor.now c.give_all.ensures.stands (unchanged-back same c.give_all.ensures.gave)) }

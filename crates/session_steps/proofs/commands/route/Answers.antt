@@ -1,6 +1,6 @@
 use Rattle.std.proofs.Common.{◌∙◌, [], sym, subst, ap}
 use Rattle.part_steps.specs.core_steps.specs.{Books.{book_asks, book_places}, declared.books.BookStep.TheVariants.Route}
-use Rattle.session_steps.proofs.{DuesOpen.route-due, Servers.books-still, Since.open-since}
+use Rattle.session_steps.proofs.{DuesOpen.route-due, Servers.books-still, Since.{open-as, open-since, unchanged-back}}
 use Rattle.part_steps.specs.seat_steps.proofs.{Since.{before-unchanged, looked, unchanged, unchanged-on}, WithLedger.first-there}
 use Rattle.part_steps.specs.seat_steps.specs.{Booked.IsDue, Floors.IsSeated, declared.floor.Player.Player}
 use Rattle.part_steps.specs.volap_cell.specs.Values.{ActorValue}
@@ -12,8 +12,8 @@ is_empty_at-requires-clause-held g c = first-there c.args.floor.now c.take_first
 pub lay-requires-clause-seated : goal.lay-requires-clause-seated
 lay-requires-clause-seated g c = subst (IsSeated c.args.floor.now) (sym c.is_empty_at.ensures.same) c.take_first.ensures.seated
 
-pub lay-requires-clause-no_part : goal.lay-requires-clause-no_part
-lay-requires-clause-no_part g c = ap (λ (a : ActorValue). a.errand) (looked (unchanged c.take_first.ensures.took.same) c.is_empty_at.ensures.same).actor ∙ c.requires.opened.no_part
+pub lay-requires-clause-opened : goal.lay-requires-clause-opened
+lay-requires-clause-opened g c = open-since (looked (unchanged c.take_first.ensures.took.same) c.is_empty_at.ensures.same).actor c.requires.opened
 
 pub lay-requires-clause-books : goal.lay-requires-clause-books
 lay-requires-clause-books g c = books-still c.args.player.now c.is_empty_at.new.player (looked (unchanged c.take_first.ensures.took.same) c.is_empty_at.ensures.same).actor c.requires.books
@@ -36,6 +36,9 @@ pub fail_unrouted-requires-clause-unlaid : goal.fail_unrouted-requires-clause-un
 fail_unrouted-requires-clause-unlaid g c of work e =
     let same = unchanged-on (looked (unchanged c.take_first.ensures.took.same) c.is_empty_at.ensures.same) (before-unchanged c.in-Err.ensures.same) in
     c.requires.unlaid of work (ap (λ (a : ActorValue). a.command) (sym same.actor) ∙ e)
+
+pub returns-then-not-is_empty_at : goal.returns-then-not-is_empty_at
+returns-then-not-is_empty_at g c = record { comes = open-as c.requires.opened c.give_all.ensures.stands (unchanged-back (looked (unchanged c.take_first.ensures.took.same) c.is_empty_at.ensures.same) c.give_all.ensures.gave) }
 
 pub returns-in-Ok : goal.returns-in-Ok
 returns-in-Ok g c = record { comes = c.in-Ok.ensures.laid c.args.player.now (looked (unchanged c.take_first.ensures.took.same) c.is_empty_at.ensures.same) }

@@ -1,10 +1,9 @@
-use Rattle.std.proofs.Common.{◌≡◌, ◌∙◌, List, [], length, ap, sym, subst, arith}
+use Rattle.std.proofs.Common.{◌≡◌, ◌∙◌, List, [], length, ap, sym, arith}
 use Rattle.row_ledger.specs.declared.event.Event.{Event}
 use Rattle.part_steps.specs.seat_steps.proofs.{Around.{around, within}, Since.{as-before, looked, unchanged}, WithLedger.first-there}
-use Rattle.session_steps.proofs.Heard.{held-seen}
-use Rattle.part_steps.specs.seat_steps.specs.{Booked.IsUnchanged, declared.floor.Player.Player}
-use Rattle.turn_table.specs.Numbered.{Extends}
-use Rattle.part_steps.specs.volap_cell.specs.{Setting.ledger_cell, Values.actor_of}
+use Rattle.session_steps.proofs.{Heard.held-seen, Since.unchanged-back}
+use Rattle.part_steps.specs.seat_steps.specs.declared.floor.Player.{Player}
+use Rattle.part_steps.specs.volap_cell.specs.Setting.{ledger_cell}
 use Rattle.session_steps.proofs.hears.hear.Goals as goal
 
 pub take_first-requires-clause-cell : goal.take_first-requires-clause-cell
@@ -21,13 +20,7 @@ events_at-count-requires-clause-held g c = first-there c.args.floor.now c.take_f
 pub returns-clause-same : goal.returns-clause-same
 returns-clause-same g c =
     let same = looked (unchanged c.take_first.ensures.took.same) c.events_at-count.ensures.same in
-    let gave = c.give_all.ensures.gave in
-    let behind : IsUnchanged c.args.player.now c.give_all.new.player = record {
-      number = gave.number ∙ same.number;
-      actor = ap actor_of gave.actor ∙ same.actor;
-      seen = subst (λ (l : List Event). Extends l c.args.player.now.seat.view.seen) (sym gave.seen) same.seen;
-    } in
-    as-before c.args.floor.now c.give_all.ensures.stands behind
+    as-before c.args.floor.now c.give_all.ensures.stands (unchanged-back same c.give_all.ensures.gave)
 
 pub returns-clause-count : goal.returns-clause-count
 returns-clause-count g c =
