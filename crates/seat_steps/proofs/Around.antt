@@ -1,17 +1,27 @@
 -- A seat and the states that it may be in: there is one, and what is held is what any of them has.
 use Rattle.std.proofs.Common.{◌≡◌, ◌∙◌, ℕ, ◌<◌, List, [], ◌∷◌, Option, Some, None, option_map, refl, sym, ap, subst, arith}
 use mathlib.Core.Option.{none, some, some-injective}
+use Rattle.core_counts.specs.Counting.{IsCounted}
 use Rattle.core_due.specs.Ready.{IsFree}
 use Rattle.core_due.specs.core_steps.specs.Places.{numbers, values, values_at}
 use Rattle.list_words.specs.Counts.{Each}
+use Rattle.row_ledger.specs.declared.event.Event.{Event}
 use Rattle.seat_steps.specs.{Floors.{IsAround, IsSeated, Stands, kept_by}, Looks.Sees, Takes.TakesTurn, declared.floor.{Floor.Floor, Player.Player}}
 use Rattle.seat_steps.proofs.{Left.no-numbers, Told.kept-told}
-use Rattle.turn_table.specs.{Numbered.{numbers_of, value_of}, Seat.{cell_count, free_rank}}
-use Rattle.turn_table.proofs.Numbered.{below_length, find_append_first, find_append_second, find_here, find_same}
-use Rattle.core_due.specs.volap_cell.specs.{Cells.{CellValue, cell_of, ledger_in}, Setting.{Setting, ledger_cell}, State.exchange, Steps.history_in, Values.{ActorValue, actor_of}, World.{MustKeep, World}, declared.cell.Cell.Cell}
+use Rattle.turn_table.specs.{Numbered.{Extends, numbers_of, value_of}, Seat.{cell_count, free_rank}, declared.view.View.View}
+use Rattle.turn_table.proofs.Numbered.{below_length, find_append_first, find_append_second, find_here, find_same, there as at}
+use Rattle.core_due.specs.volap_cell.specs.{Cells.{CellValue, cell_of, ledger_in}, Setting.{Setting, ledger_cell}, State.exchange, Steps.history_in, Values.{ActorValue, actor_of}, World.{MustKeep, World}, declared.actor.Actor.Actor, declared.cell.Cell.Cell}
 use Rattle.core_due.specs.volap_cell.specs.Setting as setting
-use Rattle.volap_turns.specs.{Law.others-free, Rows.{AreAt, IsThere, cell_for, cells_for, maybe_cell}}
+use Rattle.volap_turns.specs.{Law.others-free, Rows.{AreAt, IsThere, cell_for, cells_for, maybe_cell}, Rule.went_of, Wholes.CanBe, Worlds.is-world}
 use Rattle.volap_turns.proofs.Known.{about, alone, is, me, setting-is}
+
+-- what a seat has seen of the history is so still
+behind-of : {v : View Cell Actor Event} (can : CanBe v) → Extends (history_in can.valid.world) v.seen
+behind-of {v} can =
+    let wide = can.valid.wide in
+    let it = at can.cells ledger_cell (omega arith) in
+    let cell : can.valid.world.cells ledger_cell ≡ cell_of it.0 = (is-world can.cells can.actors can.valid.world can.valid.is).cell ledger_cell it.0 it.1 in
+    subst (λ (l : List Event). Extends l v.seen) (ap (λ (x : CellValue). (ledger_in x).history) (sym cell)) (can.agrees.seen it.0 it.1)
 
 module _ (f : Floor) (p : Player) where
   -- some state that the seat may be in
@@ -31,11 +41,13 @@ module _ (f : Floor) (p : Player) where
           workers = ap (λ (x : Setting). x.workers) (sym same) ∙ seated.workers;
           inv = can.valid.inv;
           pulling = can.valid.pulling;
+          counted = subst (λ (n : ℕ). IsCounted s w p.number n) (ap went_of (can.agrees.own p.number one.last one.has) ∙ one.went) (can.valid.counting p.number);
           actor = me one can;
           there = (let many = can.valid.many in let below = below_length can.actors p.number one.last (can.agrees.own p.number one.last one.has) in omega arith);
           cells = sym can.valid.wide ∙ sym can.cell_count ∙ seated.holds.wide;
           held = cell;
           free = λ k c e j ne. (others-free p.seat.view.held p.seat.view.actors can.actors w p.number (exchange k c c ∷ []) (is one can).actor (is one can).no_actor can.agrees.own can.unkept (alone one can (exchange k c c ∷ [])) (e, tt) j ne).0;
+          behind = behind-of can;
           seen = λ c e. ap (λ (x : CellValue). (ledger_in x).history) (cell ledger_cell c e) ∙ sym (can.agrees.fresh c e);
         },
       )

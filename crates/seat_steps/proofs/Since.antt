@@ -9,7 +9,7 @@ use Rattle.seat_steps.proofs.{Around.bare-held, HeldLedger.PushesBy}
 use Rattle.seat_steps.specs.{Booked.{HasBooked, HasPushed, IsAsBefore, IsUnchanged}, Floors.{Stands, kept_by, kept_on}, Takes.IsSameActor, declared.floor.{Floor.Floor, Player.Player}}
 use Rattle.turn_table.proofs.Numbered.{starts_self}
 use Rattle.turn_table.specs.Numbered.{Extends}
-use Rattle.core_due.specs.volap_cell.specs.{Cells.CellValue, Errands.way_of, Setting.Setting, Values.{ActorValue, actor_of}, World.World, declared.kind.Kind.Kind}
+use Rattle.core_due.specs.volap_cell.specs.{Cells.CellValue, Errands.way_of, Setting.Setting, Values.{ActorValue, actor_of}, World.World, declared.actor.Actor.Actor, declared.kind.Kind.Kind}
 
 -- What is known where a step went.
 
@@ -31,27 +31,27 @@ pub extends-on : {A : Type 0} (xs ys zs : List A) → Extends xs ys → Extends 
 extends-on xs ys zs a b = (a.0 ++ b.0, a.1 ∙ ap (λ l. a.0 ++ l) b.1 ∙ sym (append_assoc a.0 b.0 zs))
 
 abbrev pub unchanged : {was now : Player} → IsSameActor was now → IsUnchanged was now
-unchanged same = record { number = same.number; actor = ap actor_of same.actor; seen = same.seen }
+unchanged same = record { number = same.number; actor = ap actor_of same.actor; went = ap (λ (a : Actor). a.went) same.actor; seen = same.seen }
 
 pub still-unchanged : (p : Player) → IsUnchanged p p
-still-unchanged p = record { number = refl; actor = refl; seen = starts_self p.seat.view.seen }
+still-unchanged p = record { number = refl; actor = refl; went = refl; seen = starts_self p.seat.view.seen }
 
 abbrev pub unchanged-on : {p q r : Player} → IsUnchanged p q → IsUnchanged q r → IsUnchanged p r
-unchanged-on {p} {q} {r} a b = record { number = b.number ∙ a.number; actor = b.actor ∙ a.actor; seen = extends-on r.seat.view.seen q.seat.view.seen p.seat.view.seen b.seen a.seen }
+unchanged-on {p} {q} {r} a b = record { number = b.number ∙ a.number; actor = b.actor ∙ a.actor; went = b.went ∙ a.went; seen = extends-on r.seat.view.seen q.seat.view.seen p.seat.view.seen b.seen a.seen }
 
 abbrev pub looked : {p was now : Player} → IsUnchanged p was → now ≡ was → IsUnchanged p now
 looked {p} same e = subst (IsUnchanged p) (sym e) same
 
 abbrev pub before-unchanged : {f : Floor} {was now : Player} → IsAsBefore f was now → IsUnchanged was now
-before-unchanged same = record { number = same.number; actor = same.actor; seen = same.seen }
+before-unchanged same = record { number = same.number; actor = same.actor; went = same.went; seen = same.seen }
 
 pub as-before : (f : Floor) {was now : Player} → Stands f now → IsUnchanged was now → IsAsBefore f was now
-as-before f stands same = record { stands = stands; number = same.number; actor = same.actor; seen = same.seen }
+as-before f stands same = record { stands = stands; number = same.number; actor = same.actor; went = same.went; seen = same.seen }
 
 -- so it is where a step found no memory
-pub refused-unchanged : {T E : Type 0} (r : Result T E) (was now : Player) → OnErr r (now.number ≡ was.number) → OnErr r (actor_of now.actor ≡ actor_of was.actor) → OnErr r (now.seat.view.seen ≡ was.seat.view.seen) → OnErr r (IsUnchanged was now)
-refused-unchanged (Ok x) was now number actor seen = tt
-refused-unchanged (Err x) was now number actor seen = record { number = number; actor = actor; seen = subst (λ l. Extends l was.seat.view.seen) (sym seen) (starts_self was.seat.view.seen) }
+pub refused-unchanged : {T E : Type 0} (r : Result T E) (was now : Player) → OnErr r (now.number ≡ was.number) → OnErr r (actor_of now.actor ≡ actor_of was.actor) → OnErr r (now.actor.went ≡ was.actor.went) → OnErr r (now.seat.view.seen ≡ was.seat.view.seen) → OnErr r (IsUnchanged was now)
+refused-unchanged (Ok x) was now number actor went seen = tt
+refused-unchanged (Err x) was now number actor went seen = record { number = number; actor = actor; went = went; seen = subst (λ l. Extends l was.seat.view.seen) (sym seen) (starts_self was.seat.view.seen) }
 
 -- An actor at no part keeps nothing between its steps.
 

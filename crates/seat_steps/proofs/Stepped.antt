@@ -3,6 +3,7 @@ use Rattle.std.proofs.Common.{◌≡◌, ◌≢◌, ◌∙◌, ℕ, List, Option
 use Rattle.std.specs.Prelude.{OnErr, OnOk}
 use mathlib.Core.Logic.{dite}
 use native.Mathlib.Decide.{ℕ_discrete}
+use Rattle.core_counts.specs.Counting.{went_after}
 use Rattle.core_due.specs.core_steps.specs.Steps.{Went}
 use Rattle.row_ledger.specs.declared.event.Event.{Event}
 use Rattle.seat_steps.specs.{Floors.{AreTold, IsSeated, kept_by}, Made.{HasMade, IsKeptBy}, Takes.GaveAll, declared.floor.{Floor.Floor, Player.Player}}
@@ -50,6 +51,7 @@ made-behind f was mid now kind Sees Tells row (Ok x) same stepped gave = record 
   went = subst (λ (a : Actor). Went f.hierarchy kind Sees row (cells_for was.seat.view.held row) (cells_for stepped.new row) (actor_of was.actor) (actor_of a)) (sym gave.actor) stepped.went;
   told = stepped.told;
   seen = gave.seen ∙ ap (λ (v : View Cell Actor Event). v.seen) stepped.view;
+  counted = subst (λ (a : Actor). a.went ≡ went_after (actor_of was.actor) (actor_of a) was.actor.went) (sym gave.actor) stepped.counted;
 }
 made-behind f was mid now kind Sees Tells row (Err x) same stepped gave = tt
 
@@ -58,6 +60,10 @@ made-behind f was mid now kind Sees Tells row (Err x) same stepped gave = tt
 pub actor-behind : {T E : Type 0} (was mid now : Player) (r : Result T E) → OnErr r ((mid.seat ≡ was.seat) × (actor_of mid.actor ≡ actor_of was.actor)) → GaveAll mid now → OnErr r (actor_of now.actor ≡ actor_of was.actor)
 actor-behind was mid now (Ok x) same gave = tt
 actor-behind was mid now (Err x) same gave = ap actor_of gave.actor ∙ same.1
+
+pub uncounted-behind : {T E : Type 0} (was mid now : Player) (r : Result T E) → OnErr r (mid.actor.went ≡ was.actor.went) → GaveAll mid now → OnErr r (now.actor.went ≡ was.actor.went)
+uncounted-behind was mid now (Ok x) same gave = tt
+uncounted-behind was mid now (Err x) same gave = ap (λ (a : Actor). a.went) gave.actor ∙ same
 
 pub seen-behind : {T E : Type 0} (was mid now : Player) (r : Result T E) → OnErr r ((mid.seat ≡ was.seat) × (actor_of mid.actor ≡ actor_of was.actor)) → GaveAll mid now → OnErr r (now.seat.view.seen ≡ was.seat.view.seen)
 seen-behind was mid now (Ok x) same gave = tt

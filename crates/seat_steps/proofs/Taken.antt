@@ -22,7 +22,7 @@ module _ {h : List Dimension} {t : TableId} {s : SeatValue Cell Actor Event} {n 
   took-holds now cell rank tries last c e possible = record {
     own = ap (λ (z : SeatValue Cell Actor Event). z.table_id) e ∙ holds.own;
     home = ap (λ (z : SeatValue Cell Actor Event). z.lifted) e ∙ holds.home;
-    one = subst (λ (z : SeatValue Cell Actor Event). HasActor h z.view n a) (sym e) (record { last = holds.one.last; has = holds.one.has; same = holds.one.same; about = holds.one.about; others = holds.one.others });
+    one = subst (λ (z : SeatValue Cell Actor Event). HasActor h z.view n a) (sym e) (record { last = holds.one.last; has = holds.one.has; same = holds.one.same; went = holds.one.went; about = holds.one.about; others = holds.one.others });
     rows = ap (λ (z : SeatValue Cell Actor Event). numbers_of z.view.held) e ∙ numbers_append s.view.held ((cell, c) ∷ []) ∙ ap (λ (l : List ℕ). l ++ cell ∷ []) holds.rows ∙ sym (numbers_append s.ranks ((cell, rank) ∷ [])) ∙ ap (λ (z : SeatValue Cell Actor Event). numbers_of z.ranks) (sym e);
     possible = possible;
     wide = ap (λ (z : SeatValue Cell Actor Event). z.view.cell_count) e ∙ holds.wide;
@@ -33,7 +33,7 @@ module _ {h : List Dimension} {t : TableId} {s : SeatValue Cell Actor Event} {n 
   refused-holds now cell word e possible = record {
     own = ap (λ (z : SeatValue Cell Actor Event). z.table_id) e ∙ holds.own;
     home = ap (λ (z : SeatValue Cell Actor Event). z.lifted) e ∙ holds.home;
-    one = subst (λ (z : SeatValue Cell Actor Event). HasActor h z.view n a) (sym e) (record { last = holds.one.last; has = holds.one.has; same = holds.one.same; about = holds.one.about; others = holds.one.others });
+    one = subst (λ (z : SeatValue Cell Actor Event). HasActor h z.view n a) (sym e) (record { last = holds.one.last; has = holds.one.has; same = holds.one.same; went = holds.one.went; about = holds.one.about; others = holds.one.others });
     rows = ap (λ (z : SeatValue Cell Actor Event). numbers_of z.view.held) e ∙ holds.rows ∙ ap (λ (z : SeatValue Cell Actor Event). numbers_of z.ranks) (sym e);
     possible = possible;
     wide = ap (λ (z : SeatValue Cell Actor Event). z.view.cell_count) e ∙ holds.wide;
@@ -44,7 +44,7 @@ module _ {h : List Dimension} {t : TableId} {s : SeatValue Cell Actor Event} {n 
   gave-holds now cell e possible = record {
     own = ap (λ (z : SeatValue Cell Actor Event). z.table_id) e ∙ holds.own;
     home = ap (λ (z : SeatValue Cell Actor Event). z.lifted) e ∙ holds.home;
-    one = subst (λ (z : SeatValue Cell Actor Event). HasActor h z.view n a) (sym e) (record { last = holds.one.last; has = holds.one.has; same = holds.one.same; about = holds.one.about; others = holds.one.others });
+    one = subst (λ (z : SeatValue Cell Actor Event). HasActor h z.view n a) (sym e) (record { last = holds.one.last; has = holds.one.has; same = holds.one.same; went = holds.one.went; about = holds.one.about; others = holds.one.others });
     rows = ap (λ (z : SeatValue Cell Actor Event). numbers_of z.view.held) e ∙ numbers-without s.view.held s.ranks cell holds.rows ∙ ap (λ (z : SeatValue Cell Actor Event). numbers_of z.ranks) (sym e);
     possible = possible;
     wide = ap (λ (z : SeatValue Cell Actor Event). z.view.cell_count) e ∙ holds.wide;

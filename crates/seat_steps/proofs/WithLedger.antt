@@ -5,6 +5,7 @@ use Rattle.std.specs.Prelude.{option_and_then, ⊤}
 use mathlib.Core.Logic.{dite}
 use mathlib.Core.Option.{none, some, some-injective, some-ne-none}
 use native.Mathlib.Decide.{ℕ_discrete}
+use Rattle.core_counts.specs.Counting.{IsCounted}
 use Rattle.core_due.specs.Ready.{IsPrepared}
 use Rattle.core_due.specs.core_steps.specs.{Places.{numbers, one_at, swaps, three_at, two_at, values}, Steps.Went}
 use Rattle.dim_hierarchy.specs.Dimension.{Dimension}
@@ -12,7 +13,7 @@ use Rattle.list_words.specs.Counts.{Among, Each}
 use Rattle.list_words.proofs.Each.{each-map}
 use Rattle.row_ledger.proofs.Growth.{IsRight-kept}
 use Rattle.row_ledger.specs.{Past.{event_at, session_in}, Right.IsRight, declared.event.Event.Event}
-use Rattle.seat_steps.proofs.{Around.{around, asked-held, still-held, told-there, took-there}, Ranks.{order-more, order-none}}
+use Rattle.seat_steps.proofs.{Around.{around, asked-held, still-held, told-there, took-there}, Ranks.{order-more, order-none}, Since.extends-on}
 use Rattle.seat_steps.specs.{Booked.{HasBooked, IsDue, IsUpToLedger}, Floors.{IsAround, IsSeated, Stands}, Made.HasMade, Takes.Takes, declared.floor.{Floor.Floor, Player.Player}}
 use Rattle.turn_table.proofs.Numbered.{find_else, find_here, find_same, none_same}
 use Rattle.turn_table.specs.{Numbered.{numbers_of, value_of}, Seat.{IsInOrder, cell_count}, Views.seen_of}
@@ -85,11 +86,13 @@ around-before f {was} {now} took off s w is =
       workers = is.workers;
       inv = is.inv;
       pulling = is.pulling;
+      counted = subst (λ (x : ℕ × ℕ). IsCounted s w x.0 x.1) (λ i. (number i, (took.same.actor i).went)) is.counted;
       actor = ap w.actors (sym number) ∙ is.actor ∙ ap actor_of took.same.actor;
       there = subst (λ (n : ℕ). n < actor_count s) number is.there;
       cells = is.cells;
       held = λ k c e. is.held k c (still-held took k c e);
       free = λ k c e j ne. is.free k c (still-held took k c e) j (λ x. ne (x ∙ number));
+      behind = extends-on (history_in w) now.seat.view.seen was.seat.view.seen is.behind took.same.seen;
       seen = λ c e. absurd (some-ne-none c (sym e ∙ off));
     }
 

@@ -6,9 +6,10 @@
 //! `try_take` asks for no order and waits for nobody; where it goes without, it tells the word that it read
 //! (`busy`, `read`). At most 7 cells are held.
 //!
-//! `make` makes a step over the held cells and gives back all but the one to keep: it is the step defined
-//! (`made`), or, where memory is wanting, actor and history are as before (`same_actor`, `same_seen`).
-//! `make_booked` waits for the ledger last and adds an event (`booked`). That a wait ends is not proved.
+//! `make` makes a step over the held cells and gives back all but the one to keep: it is the step defined, and
+//! counted (`made`), or, where memory is wanting, actor, count and history are as before (`same_actor`,
+//! `uncounted`, `same_seen`). `make_booked` waits for the ledger last and adds an event (`booked`). That a wait
+//! ends is not proved.
 #![tactic(auto)]
 
 mod booked;

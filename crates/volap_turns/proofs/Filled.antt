@@ -5,12 +5,13 @@ use mathlib.Core.Option.{some, some-injective}
 use lib.ListN.{get_elem?}
 use Rattle.dim_hierarchy.specs.Dimension.{Dimension}
 use Rattle.row_ledger.specs.declared.event.Event.{Event}
+use Rattle.core_counts.proofs.Counting.{resting-count-law}
 use Rattle.core_told.proofs.Pulling.{resting-law}
 use Rattle.turn_table.specs.{Law.IsClosed, Numbered.value_of, declared.view.View.View}
 use Rattle.turn_table.proofs.Numbered.{below_length, there}
 use Rattle.core_told.specs.volap_cell.specs.{Cells.{cell_of, ledger_in}, Setting.{Setting, ledger_cell}, Sights.IsIdle, State.{Has, IsWorldOf}, Values.{ActorValue, actor_of}, World.World, declared.actor.Actor.Actor, declared.cell.Cell.Cell}
 use Rattle.core_told.specs.volap_cell.proofs.Cells.States.{is-some, of-it, stands}
-use Rattle.volap_turns.specs.{Rule.{IsValid, Rests, all_there, history_of}, Wholes.{AreActorsOf, AreIdle, HasHistory, IsWhole, OpeningLaw}, Worlds.{at-place, is-world, long, past}}
+use Rattle.volap_turns.specs.{Rule.{IsValid, Rests, all_there, history_of, went_at}, Wholes.{AreActorsOf, AreIdle, HasHistory, IsWhole, OpeningLaw}, Worlds.{at-place, is-world, long, past}}
 
 module _ {A : Type 0} where
   abbrev pub items_of : List (Option A) → List A
@@ -46,11 +47,18 @@ module _ {h : List Dimension} {cells : List (Option Cell)} {actors : List (Optio
   is-of : (xs : List Cell) (ys : List Actor) → all_there xs ≡ cells → all_there ys ≡ actors → IsWorldOf (all_there xs) (all_there ys) whole.sound.world
   is-of xs ys c a = subst (λ (l : List (Option Cell)). IsWorldOf l (all_there ys) whole.sound.world) (sym c) (subst (λ (l : List (Option Actor)). IsWorldOf cells l whole.sound.world) (sym a) whole.sound.is)
 
-  -- where everybody is idle nobody has a command
+  -- where everybody is idle nobody has a command, or is at a part
+
   at-rest : AreIdle cells actors → (a : ℕ) → (whole.sound.world.actors a).command ≡ None
   at-rest idle a = elim (cases_lt a (length actors)) [
     | inl low ↦ (idle whole.sound.world whole.sound.is a low).command
     | inr high ↦ (whole.sound.is.no_actor a high).command
+  ]
+
+  at-no-part : AreIdle cells actors → (a : ℕ) → (whole.sound.world.actors a).errand ≡ None
+  at-no-part idle a = elim (cases_lt a (length actors)) [
+    | inl low ↦ (idle whole.sound.world whole.sound.is a low).errand
+    | inr high ↦ (whole.sound.is.no_actor a high).errand
   ]
 
   pub valid-of : AreIdle cells actors → (xs : List Cell) (ys : List Actor) → all_there xs ≡ cells → all_there ys ≡ actors → IsValid xs ys
@@ -60,6 +68,7 @@ module _ {h : List Dimension} {cells : List (Option Cell)} {actors : List (Optio
     is = is-of xs ys c a;
     inv = whole.sound.inv;
     pulling = resting-law whole.sound.setting whole.sound.world (at-rest idle);
+    counting = resting-count-law whole.sound.setting whole.sound.world (went_at ys) (at-rest idle) (at-no-part idle);
     wide = sym (long xs) ∙ ap (λ (l : List (Option Cell)). length l) c ∙ whole.wide;
     many = sym (long ys) ∙ ap (λ (l : List (Option Actor)). length l) a ∙ whole.many;
   }

@@ -1,6 +1,7 @@
 -- What a seat knows: what each step asks for is there, and the step is an event.
 use Rattle.std.proofs.Common.{◌≡◌, ◌≢◌, ◌∙◌, ℕ, true, false, List, [], ◌∷◌, ◌++◌, Option, Some, None, is_some, refl, sym, ap, subst, arith, eq-eqb}
 use mathlib.Core.Option.{some}
+use Rattle.core_counts.specs.Counting.{went_after}
 use Rattle.core_steps.specs.{Places.{Fill, numbers, swaps, things}, Steps.Went}
 use Rattle.core_steps.proofs.Filling.{are-swaps, by-places}
 use Rattle.dim_hierarchy.specs.Dimension.{Dimension}
@@ -96,9 +97,9 @@ module _ {h : List Dimension} {v : View Cell Actor Event} {n : ℕ} {a : Actor} 
     }
 
     module _ {kind : Kind} {Sees : Setting → World → ℕ → Type 0} (new : List (ℕ × Cell)) (b : Actor) (sees : CanSee h v n Sees) (went : Went h kind Sees row was (cells_for new row) (actor_of a) (actor_of b)) where
-      -- the step is one event
-      pub event-of : numbers_of new ≡ numbers_of v.held → ((k : ℕ) → value_of new k ≡ value_of (things row (cells_for new row)) k) → Goes (sight v) new n one.last b
-      event-of alike each =
+      -- the step is one event, where the actor has counted it
+      pub event-of : b.went ≡ went_after (actor_of a) (actor_of b) a.went → numbers_of new ≡ numbers_of v.held → ((k : ℕ) → value_of new k ≡ value_of (things row (cells_for new row)) k) → Goes (sight v) new n one.last b
+      event-of counted alike each =
           let filled = fill-for new row (there-same v.held new (numbers row) (sym alike) at.there) in
           let Made : ActorValue → Type 0 = λ z. (m : Makes h kind (changes_of (swaps row was (cells_for new row))) z (actor_of b)) × ((st : Setting) (u : World) → Sees st u n → HasSight st u n h kind (changes_of (swaps row was (cells_for new row))) z (actor_of b) m.does) in
           let made : Made (actor_of one.last) = subst Made (sym one.same) (went.makes, λ st u saw. went.sight st u n saw) in
@@ -111,6 +112,7 @@ module _ {h : List Dimension} {v : View Cell Actor Event} {n : ℕ} {a : Actor} 
             now = λ k. each k ∙ ap (λ (l : List (ℕ × Cell)). value_of l k) (sym (are-swaps row was (cells_for new row) (fill-for v.held row at.there) filled).after);
             alone = alone (swaps row was (cells_for new row));
             makes = made.0;
+            went = counted ∙ sym (λ k. went_after (one.same k) (actor_of b) (one.went k));
             sight = λ st u is_about inv seen. made.1 st u (sees st u is_about inv seen);
           }
 

@@ -7,10 +7,11 @@
 //! again (`whole`), with the history that the seat has seen (`history`).
 //!
 //! `step` makes one step of any kind over the cells that a seat holds, at most 7, as one event: the step is
-//! the one defined (`went`). Where no memory is found, the seat is the same, and the actor but for its rooms
-//! (`same`). Other threads may be at work meanwhile; how turns are waited for is a matter of `turn_table`.
+//! the one defined, and the actor counts the part that it ends or sends on (`went`). Where no memory is found,
+//! the seat is the same, and the actor but for its rooms (`same`). Other threads may be at work meanwhile.
 #![tactic(auto)]
 
+mod counts;
 mod laws;
 mod over;
 mod seat_step;

@@ -6,6 +6,7 @@ ghost use Rattle.core_told.specs.volap_cell.specs.Values.{actor_of};
 ghost use Rattle.volap_turns.specs.Rows.{AreAt, IsRow, cells_for};
 ghost use Rattle.volap_turns.specs.Seats.{CanSee, HasStepped, Holds, IsStillHeld};
 
+use crate::counts::Count;
 use crate::over::{Over, is_one_more};
 use crate::volap::Volap;
 use core_steps::{CellStep, Places};

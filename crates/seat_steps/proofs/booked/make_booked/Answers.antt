@@ -41,4 +41,4 @@ returns-clause-booked g c =
 
 pub returns-clause-same : goal.returns-clause-same
 returns-clause-same g c =
-    map-err c.make.result (λ same. as-before c.args.floor.now c.make.ensures.stands (unchanged-on (unchanged c.take.ensures.took.same) same)) (refused-unchanged c.make.result _ _ c.make.ensures.same c.make.ensures.same_actor c.make.ensures.same_seen)
+    map-err c.make.result (λ same. as-before c.args.floor.now c.make.ensures.stands (unchanged-on (unchanged c.take.ensures.took.same) same)) (refused-unchanged c.make.result _ _ c.make.ensures.same c.make.ensures.same_actor c.make.ensures.uncounted c.make.ensures.same_seen)

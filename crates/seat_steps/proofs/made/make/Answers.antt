@@ -1,6 +1,6 @@
 use Rattle.std.proofs.Common.{refl}
 use Rattle.seat_steps.specs.declared.floor.Player.{Player}
-use Rattle.seat_steps.proofs.Stepped.{actor-behind, left-held, made-behind, seated-behind, seen-behind}
+use Rattle.seat_steps.proofs.Stepped.{actor-behind, left-held, made-behind, seated-behind, seen-behind, uncounted-behind}
 use Rattle.seat_steps.proofs.made.make.Goals as goal
 
 pub step-made-requires-clause-left : goal.step-made-requires-clause-left
@@ -35,3 +35,9 @@ returns-clause-same_seen g c =
     let was = c.args.player.now in
     let mid : Player = record { number = was.number; actor = c.step-made.new.actor; seat = c.step-made.new.seat } in
     seen-behind was mid c.give_all.new.player c.step-made.result c.step-made.ensures.same c.give_all.ensures.gave
+
+pub returns-clause-uncounted : goal.returns-clause-uncounted
+returns-clause-uncounted g c =
+    let was = c.args.player.now in
+    let mid : Player = record { number = was.number; actor = c.step-made.new.actor; seat = c.step-made.new.seat } in
+    uncounted-behind was mid c.give_all.new.player c.step-made.result c.step-made.ensures.uncounted c.give_all.ensures.gave
