@@ -4,7 +4,7 @@ use Rattle.std.proofs.{Common.{◌≡◌, ◌≢◌, ◌∙◌, ℕ, ◌+◌, �
 use mathlib.Core.Logic.{dite}
 use mathlib.Core.Option.{none, some, some-injective, some-ne-none}
 use native.Mathlib.Decide.{ℕ_discrete}
-use Rattle.core_counts.specs.Counting.{IsCounted}
+use Rattle.seat_steps.specs.core_counts.specs.Counting.{IsCounted}
 use Rattle.seat_steps.specs.core_due.specs.Ready.{IsLendable, IsPrepared}
 use Rattle.seat_steps.specs.core_steps.specs.Places.{number_at, numbers}
 use Rattle.list_words.specs.Counts.{Each}

@@ -8,7 +8,7 @@ use Rattle.seat_steps.specs.core_steps.specs.declared.trees.TreeStep.TheVariants
 use Rattle.dim_hierarchy.specs.Dimension.{Dimension}
 use Rattle.list_words.specs.Counts.{Each}
 use Rattle.row_ledger.specs.declared.event.Event.{Event}
-use Rattle.core_counts.specs.Counting.{went_after}
+use Rattle.seat_steps.specs.core_counts.specs.Counting.{went_after}
 use Rattle.part_steps.specs.{Counts.{HasReadAlone, IsOfEverything}, Goings.{IsBesidePart, WentOn}, Parts.{CanEndPart, IsForRow, IsPartSure, IsTreeSure, IsUnread, MayWaitFor}}
 use Rattle.seat_steps.specs.{Floors.{IsSeated, Stands}, Made.{HasMade, IsKeptBy}, Takes.IsSameActor, declared.floor.{Floor.Floor, Player.Player}}
 use Rattle.part_steps.proofs.{Everything.{part-ends, tree-alone, tree-over}, Keeping.{IsNoBalance, at-part-no-balance, part-beside, part-kept, tree-beside}, NoRows.{read-alone, unread-alone}, PartsSure.with-around, Takings.{all-at, first-turn, second-turn}, Unvisited.{part-unvisited, tree-unvisited}}

@@ -1,6 +1,6 @@
 -- How far an actor comes by a step at its seat.
 use Rattle.std.specs.Prelude.{◌≡◌, ◌⊎◌, None}
-use Rattle.core_counts.specs.Counting.{went_after}
+use Rattle.seat_steps.specs.core_counts.specs.Counting.{went_after}
 use Rattle.part_steps.specs.{Counts.{HasReadAlone, IsOfEverything}, Parts.IsUnread, Reads.IsBeforeBlocks}
 use Rattle.seat_steps.specs.{Floors.Stands, declared.floor.{Floor.Floor, Player.Player}}
 use Rattle.turn_table.specs.Numbered.{Extends}

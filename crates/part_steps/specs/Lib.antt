@@ -16,3 +16,4 @@ pub mod core_told
 pub mod volap_turns
 pub mod core_due
 pub mod seat_steps
+pub use Rattle.seat_steps.specs.core_counts

@@ -1,7 +1,7 @@
 -- A seat and the states that it may be in: there is one, and what is held is what any of them has.
 use Rattle.std.proofs.Common.{◌≡◌, ◌∙◌, ℕ, ◌<◌, List, [], ◌∷◌, Option, Some, None, option_map, refl, sym, ap, subst, arith}
 use mathlib.Core.Option.{none, some, some-injective}
-use Rattle.core_counts.specs.Counting.{IsCounted}
+use Rattle.volap_turns.specs.core_counts.specs.Counting.{IsCounted}
 use Rattle.core_due.specs.Ready.{IsFree}
 use Rattle.core_due.specs.core_steps.specs.Places.{numbers, values, values_at}
 use Rattle.list_words.specs.Counts.{Each}

@@ -3,7 +3,7 @@ use Rattle.std.proofs.Common.{◌≡◌, ◌≢◌, ◌∙◌, ℕ, List, Option
 use Rattle.std.specs.Prelude.{OnErr, OnOk}
 use mathlib.Core.Logic.{dite}
 use native.Mathlib.Decide.{ℕ_discrete}
-use Rattle.core_counts.specs.Counting.{went_after}
+use Rattle.volap_turns.specs.core_counts.specs.Counting.{went_after}
 use Rattle.core_due.specs.core_steps.specs.Steps.{Went}
 use Rattle.row_ledger.specs.declared.event.Event.{Event}
 use Rattle.seat_steps.specs.{Floors.{AreTold, IsSeated, kept_by}, Made.{HasMade, IsKeptBy}, Takes.GaveAll, declared.floor.{Floor.Floor, Player.Player}}

@@ -5,7 +5,7 @@ use Rattle.std.specs.Prelude.{option_and_then, ⊤}
 use mathlib.Core.Logic.{dite}
 use mathlib.Core.Option.{none, some, some-injective, some-ne-none}
 use native.Mathlib.Decide.{ℕ_discrete}
-use Rattle.core_counts.specs.Counting.{IsCounted}
+use Rattle.volap_turns.specs.core_counts.specs.Counting.{IsCounted}
 use Rattle.core_due.specs.Ready.{IsPrepared}
 use Rattle.core_due.specs.core_steps.specs.{Places.{numbers, one_at, swaps, three_at, two_at, values}, Steps.Went}
 use Rattle.dim_hierarchy.specs.Dimension.{Dimension}

@@ -1,7 +1,7 @@
 -- An actor at its seat: what holds of it while it holds cells, and between its steps.
 use Rattle.std.specs.Prelude.{ℕ, ◌≡◌, ◌≢◌, ◌<◌, List, [], ◌∷◌, Option, Some, None}
 use mathlib.Core.Option.{some}
-use Rattle.core_counts.specs.Counting.{IsCounted}
+use Rattle.volap_turns.specs.core_counts.specs.Counting.{IsCounted}
 use Rattle.volap_turns.specs.core_told.specs.Pulling.{IsPulling}
 use Rattle.list_words.specs.Counts.{Each}
 use Rattle.seat_steps.specs.declared.floor.{Floor.Floor, Player.Player}

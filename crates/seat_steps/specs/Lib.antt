@@ -15,3 +15,4 @@ pub mod core_steps
 pub mod core_told
 pub mod volap_turns
 pub mod core_due
+pub use Rattle.volap_turns.specs.core_counts

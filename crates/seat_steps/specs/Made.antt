@@ -1,6 +1,6 @@
 -- What a step of an actor at its seat comes to.
 use Rattle.std.specs.Prelude.{ℕ, ◌≡◌, List, Option}
-use Rattle.core_counts.specs.Counting.{went_after}
+use Rattle.volap_turns.specs.core_counts.specs.Counting.{went_after}
 use Rattle.core_due.specs.core_steps.specs.{Places.values, Steps.Went}
 use Rattle.dim_hierarchy.specs.Dimension.{Dimension}
 use Rattle.seat_steps.specs.{Floors.{AreTold, kept_by}, declared.floor.Player.Player}

@@ -1,6 +1,6 @@
 -- What a session's beginnings and notes come to.
 use Rattle.std.proofs.Common.{◌≡◌, ◌∙◌, ◌≤◌, ℕ, ℤ, false, List, length, Some, is_some, refl, sym, ap, subst}
-use Rattle.core_counts.specs.Counting.{went_if}
+use Rattle.part_steps.specs.core_counts.specs.Counting.{went_if}
 use Rattle.part_steps.specs.core_image.specs.Told.{asked_by, begun_by, refused_by, unknown_by}
 use Rattle.part_steps.specs.core_steps.specs.{Begins.{begin_kind, begin_places, begin_tells}, Notes.{note_kind, note_places, note_tells}}
 use Rattle.part_steps.specs.core_steps.specs.declared.begins.BeginStep.TheVariants as begin

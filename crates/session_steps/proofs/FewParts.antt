@@ -1,6 +1,6 @@
 -- When a session's query ends, no more parts of it were ended or sent on than there are shards, splits and moves for.
 use Rattle.std.proofs.Common.{◌≡◌, ◌∙◌, ℕ, ◌+◌, ◌*◌, ◌≤◌, List, ◌∷◌, Option, inl, inr, refl, ap, subst, arith}
-use Rattle.core_counts.specs.Ahead.{most_ahead, moves, splits}
+use Rattle.part_steps.specs.core_counts.specs.Ahead.{most_ahead, moves, splits}
 use Rattle.row_ledger.specs.{Shards.ids_made, declared.event.Event.Event}
 use Rattle.part_steps.specs.seat_steps.proofs.Around.{around, still-there, took-there, whole-seen}
 use Rattle.part_steps.specs.seat_steps.specs.{Booked.HasBooked, declared.floor.{Floor.Floor, Player.Player}}

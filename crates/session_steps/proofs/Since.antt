@@ -1,6 +1,6 @@
 -- What a step of a session's command comes to, told since an earlier time at which the session was the same.
 use Rattle.std.proofs.Common.{◌≡◌, ◌∙◌, ◌⊎◌, ℕ, ◌≤◌, Bool, true, false, List, length, Option, Some, None, is_some, inl, refl, sym, ap, subst}
-use Rattle.core_counts.specs.{Ahead.most_ahead, Counting.{went_after, went_if}}
+use Rattle.part_steps.specs.core_counts.specs.{Ahead.most_ahead, Counting.{went_after, went_if}}
 use Rattle.row_ledger.specs.{Past.{Query, query_at}, declared.event.Event.Event}
 use Rattle.script_run.proofs.PlaceFacts.{begins_of-other}
 use Rattle.script_run.specs.Places.{begins_in, begins_of}

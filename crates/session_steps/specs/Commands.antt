@@ -1,6 +1,6 @@
 -- The commands of a session: what it has open, how far it comes, and how it ends.
 use Rattle.std.specs.Prelude.{ℕ, ◌≡◌, ◌≤◌, ◌⊎◌, ⊤, Bool, List, ◌∷◌, length, Some, None}
-use Rattle.core_counts.specs.Ahead.{most_ahead}
+use Rattle.part_steps.specs.core_counts.specs.Ahead.{most_ahead}
 use Rattle.dim_hierarchy.specs.declared.row.Row.{Row}
 use Rattle.part_steps.specs.Parts.{IsUnread}
 use Rattle.row_ledger.specs.{Past.{Query, query_at}, Right.IsRight, declared.event.Event.Event}

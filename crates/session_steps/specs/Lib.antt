@@ -14,3 +14,4 @@ pub mod volap_turns
 pub mod core_due
 pub mod seat_steps
 pub mod part_steps
+pub use Rattle.part_steps.specs.core_counts

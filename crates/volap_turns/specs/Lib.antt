@@ -7,3 +7,4 @@ pub mod Made
 pub mod Seats
 -- What stands below is passed on.
 pub use Rattle.core_told
+pub use Rattle.core_counts

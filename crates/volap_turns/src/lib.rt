@@ -16,8 +16,6 @@ mod laws;
 mod over;
 mod seat_step;
 mod spread;
-#[cfg(test)]
-mod tests;
 mod volap;
 mod wholes;
 

@@ -19,3 +19,4 @@ pub mod part_steps
 pub mod job_steps
 pub mod session_steps
 pub mod call_steps
+pub use Rattle.call_steps.specs.core_counts
