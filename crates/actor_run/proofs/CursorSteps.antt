@@ -17,13 +17,13 @@ use Rattle.whole_steps.specs.volap_cell.specs.{ImageKinds.doing, Values.{ActorVa
 abbrev pub in_place : Player → Actor → Player
 in_place p b = record p { actor = b }
 
-module _ (f : Floor) (p : Player) (b : Actor) (same : actor_of b ≡ actor_of p.actor) where
+module _ (f : Floor) (p : Player) (b : Actor) (same : actor_of b ≡ actor_of p.actor) (went : b.went ≡ p.actor.went) where
   seated-still : IsSeated f p → IsSeated f (in_place p b)
   seated-still seated = record {
     holds = record {
       own = seated.holds.own;
       home = seated.holds.home;
-      one = record { last = seated.holds.one.last; has = seated.holds.one.has; same = seated.holds.one.same ∙ sym same; about = ap (λ (x : ActorValue). x.setting.hierarchy) same ∙ seated.holds.one.about; others = seated.holds.one.others };
+      one = record { last = seated.holds.one.last; has = seated.holds.one.has; same = seated.holds.one.same ∙ sym same; went = seated.holds.one.went ∙ sym went; about = ap (λ (x : ActorValue). x.setting.hierarchy) same ∙ seated.holds.one.about; others = seated.holds.one.others };
       rows = seated.holds.rows;
       possible = seated.holds.possible;
       wide = seated.holds.wide;

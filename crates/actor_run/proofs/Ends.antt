@@ -23,13 +23,14 @@ use Rattle.whole_steps.specs.volap_cell.specs.declared.command.Work.TheVariants 
 -- Beginnings.
 
 pub as-before-self : (f : Floor) (p : Player) → Stands f p → IsAsBefore f p p
-as-before-self f p stands = record { stands = stands; number = refl; actor = refl; seen = ([], refl) }
+as-before-self f p stands = record { stands = stands; number = refl; actor = refl; went = refl; seen = ([], refl) }
 
 pub as-before-on : (f : Floor) (was mid now : Player) → IsAsBefore f was mid → IsAsBefore f mid now → IsAsBefore f was now
 as-before-on f was mid now first second = record {
   stands = second.stands;
   number = second.number ∙ first.number;
   actor = second.actor ∙ first.actor;
+  went = second.went ∙ first.went;
   seen = extends-on now.seat.view.seen mid.seat.view.seen was.seat.view.seen second.seen first.seen;
 }
 
@@ -57,6 +58,7 @@ asked-behind f was mid now of filter begins before has =
       };
       position = has.position;
       actor = has.actor ∙ ap (λ (x : ActorValue). let z : ActorValue = record x { command = doing of work_is.Query; seen = length now.seat.view.seen } in z) before.actor;
+      went = has.went;
     }
 
 -- Ends.

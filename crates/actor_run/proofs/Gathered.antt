@@ -97,6 +97,7 @@ module _ {s : S} {own : Actor} {actors : List (Option Actor)} (are : ArePasses s
             last = it.last;
             has = it.has;
             same = it.same;
+            went = it.went;
             about = ap (λ (z : Setting). z.hierarchy) it.about_is ∙ of.hierarchy;
             others = λ j y k ne has keeps. idle-keeps (actor_of y) k (idle-at j y has).errand keeps;
           };
@@ -133,6 +134,7 @@ module _ {s : S} {own : Actor} {actors : List (Option Actor)} (are : ArePasses s
         last = done.stands.sole.holds.one.last;
         has = done.stands.sole.holds.one.has;
         same = done.stands.sole.holds.one.same;
+        went = done.stands.sole.holds.one.went;
         about_is = done.same.setting ∙ it.about_is;
         idle = done.idle it.idle;
         noted = done.noted;

@@ -101,6 +101,7 @@ module _ {s : SeatValue Cell Actor Event} {own : Actor} {actors : List (Option A
     last = pass.holds.one.last;
     has = now-in;
     same = pass.holds.one.same;
+    went = pass.holds.one.went;
     about_is = same-setting;
     idle = pass.idle;
     noted = (let l = as-long t.view.seen p.seat.view.seen lists.1 in let n = pass.noted in omega arith);

@@ -10,6 +10,7 @@ pub mod Chains
 pub mod Sessions
 pub mod Opened
 pub mod Ends
+pub mod Everything
 pub mod Pulled
 pub mod Unknown
 pub mod CursorOpen

@@ -57,6 +57,7 @@ module _ {s : Setting} {t : TableId} {seat : S} (xs : List Actor) (own : Actor) 
     last = x;
     has = has a x e;
     same = refl;
+    went = refl;
     about_is = f.about ∙ sym about;
     idle = record { command = f.command; errand = f.errand; job = f.job; purse = f.purse; counted = f.counted };
     noted = omega (arith, f.seen);

@@ -66,7 +66,7 @@ module _ {v : View Cell Actor Event} (p : CanBe v) where
 -- What is at a place stays where the seat has as much.
 pub still-at : (about : Setting) (s t : SeatValue Cell Actor Event) (a : ℕ) (o : Option Actor) → value_of t.view.actors a ≡ value_of s.view.actors a → length s.view.seen ≤ length t.view.seen → IsAt about s a o → IsAt about t a o
 still-at about s t a None same more at = same ∙ at
-still-at about s t a (Some x) same more at = record { last = at.last; has = same ∙ at.has; same = at.same; about_is = at.about_is; idle = at.idle; noted = (let n = at.noted in omega arith) }
+still-at about s t a (Some x) same more at = record { last = at.last; has = same ∙ at.has; same = at.same; went = at.went; about_is = at.about_is; idle = at.idle; noted = (let n = at.noted in omega arith) }
 
 -- no ranks, no cells
 pub none-held : {A B : Type 0} (ps : List (ℕ × A)) (qs : List (ℕ × B)) → numbers_of ps ≡ numbers_of qs → qs ≡ [] → ps ≡ []

@@ -51,6 +51,7 @@ module _ {s : SeatValue Cell Actor Event} {own : Actor} {actors : List (Option A
           last = was-in.last;
           has = ap (λ o. value_of (lone o number) number) was-in.has ∙ find_here [] number was-in.last;
           same = was-in.same;
+          went = was-in.went;
           about = refl;
           others = λ j y k ne has keeps. ne (alone j y has);
         };

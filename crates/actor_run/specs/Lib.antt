@@ -2,6 +2,7 @@ pub mod Passes
 pub mod Halls
 pub mod Opened
 pub mod Driving
+pub mod Everything
 pub mod Called
 pub mod Sessions
 pub mod Doing

@@ -96,6 +96,7 @@ pub record IsIn (about : Setting) (s : SeatValue Cell Actor Event) (a : ℕ) (x 
   pub last : Actor
   pub has : value_of s.view.actors a ≡ some last
   pub same : actor_of last ≡ actor_of x
+  pub went : last.went ≡ x.went
   pub about_is : (actor_of x).setting ≡ about
   pub idle : IsIdle (actor_of x)
   pub noted : (actor_of x).seen ≤ length s.view.seen

@@ -2,11 +2,13 @@
 ghost use Rattle.std.specs.Prelude.{ℕ, ◌≡◌, ◌<◌, ◌≤◌, List, All, length, IfSome, IfNone, IfOk, IfErr, OnOk, OnErr};
 ghost use Rattle.actor_run.specs.Cursors.{IsNoAnswer};
 ghost use Rattle.actor_run.specs.Doing.{Does, HasDone, HasTold, HasRefused};
+ghost use Rattle.actor_run.specs.Everything.{CostsFew, IsFew};
 ghost use Rattle.actor_run.specs.Sessions.{BeganNothing, EndedQuery, EndsSync, IsSession, TriesInsert, TriesQuery};
 ghost use Rattle.dim_hierarchy.specs.Filter.{IsFilterNamed, IsFilterOf};
 ghost use Rattle.dim_hierarchy.specs.Names.{IsNamePick};
 ghost use Rattle.dim_hierarchy.specs.Row.{IsCoordNamed, IsCoordOf};
 ghost use Rattle.dim_hierarchy.specs.declared.filter.NamePick.{NamePick};
+ghost use Rattle.whole_steps.specs.core_tree.specs.ReadDue.{IsOfAll};
 ghost use Rattle.whole_steps.specs.seat_steps.specs.Booked.{IsAsBefore};
 ghost use Rattle.whole_steps.specs.session_steps.specs.Begins.{CanBegin, HasAsked};
 ghost use Rattle.whole_steps.specs.seat_steps.specs.Floors.{Stands};
@@ -108,6 +110,7 @@ pub(crate) fn query<R: Wait + Sync, M: Meet>(
     ensures does { Does floor.now (TriesQuery result filter.now) player.old player.new }
     ensures seen { seen.new ≡ length player.new.seat.view.seen }
     ensures kept { steps.old ≤ steps.new }
+    ensures steps { CostsFew floor.now filter.now player.new.seat.view.seen steps.old steps.new }
 {
     match filter_for(rt, alloc, floor, player, seen, filter)? {
         Ok(picks) => query_with(
@@ -136,6 +139,7 @@ fn query_with<R: Wait + Sync, M: Meet>(
     ensures does { (names : List NamePick) → IsFilterNamed floor.now.hierarchy names filter → Does floor.now (TriesQuery result names) player.old player.new }
     ensures seen { seen.new ≡ length player.new.seat.view.seen }
     ensures kept { steps.old ≤ steps.new }
+    ensures steps { IsOfAll floor.now.hierarchy filter → IsFew floor.now player.new.seat.view.seen steps.old steps.new }
 {
     let Some(of) = ask(rt, alloc, floor, bell, hands, player, filter) else {
         refuse(rt, alloc, floor, player, seen)?;

@@ -1,6 +1,7 @@
 //! A session's open command, to its end.
-ghost use Rattle.std.specs.Prelude.{◌≡◌, ◌≤◌};
+ghost use Rattle.std.specs.Prelude.{ℕ, ◌≡◌, ◌≤◌};
 ghost use Rattle.actor_run.specs.Driving.{EndsSince, GoesSince, IsOpenSince};
+ghost use Rattle.actor_run.specs.Everything.{HasSpent, IsFew, SpendsSince};
 ghost use Rattle.whole_steps.specs.seat_steps.specs.declared.floor.Player.{Player};
 
 use crate::bell::Bell;
@@ -26,6 +27,7 @@ pub(crate) fn drive<R: Wait + Sync, M: Meet>(
     requires open { IsOpenSince floor.now player.old player.old }
     ensures ends { EndsSince floor.now result player.old player.new }
     ensures kept { steps.old ≤ steps.new }
+    ensures steps { HasSpent floor.now player.old steps.old steps.old → IsFew floor.now player.new.seat.view.seen steps.old steps.new }
 {
     for _ in rt.forever() {
         match go_on(rt, alloc, floor, bell, player, meet, steps) {
@@ -49,6 +51,7 @@ fn go_on<R: Wait + Sync, M: Meet>(
     requires command { (start : Player) × IsOpenSince floor.now start player.old }
     ensures goes { (start : Player) → IsOpenSince floor.now start player.old → GoesSince floor.now result start player.new }
     ensures kept { steps.old ≤ steps.new }
+    ensures steps { (was : ℕ) → HasSpent floor.now player.old was steps.old → SpendsSince floor.now result player.new was steps.new }
 {
     if player.actor.errand.is_some() {
         match go_on_at_part(rt, alloc, floor, player, steps) {
@@ -71,6 +74,8 @@ fn go_on<R: Wait + Sync, M: Meet>(
         }
         Next::Ended(end) => {
             bell.ring(rt);
+            // For contracts alone: the count is that of a counter of 64 bits.
+            let _ = steps.count();
             Some(end)
         }
     }

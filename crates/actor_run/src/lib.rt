@@ -5,7 +5,8 @@
 //! again, and `Hall::close` gives a state that meets the invariant, with the right history of all (`closed`).
 //! Of `Session::insert`, `query` and `sync` the clause `does` says: what was seen before is a part of what is
 //! seen now, which is right; the command began with an event of its own behind it, and ended with the newest
-//! one. A `Cursor` takes a query block by block.
+//! one. A query over everything counts at most four steps for each shard that was ever made and for each move
+//! (`steps`). A `Cursor` takes a query block by block.
 //!
 //! While all passes are in, `shards`, `tree`, `audit`, `barrier` and `settle` are calls of the whole hall
 //! (`on`). Where memory is wanting a call tells so. That a call returns is not proved: it waits for other

@@ -1,6 +1,7 @@
 //! The calls of a session.
 ghost use Rattle.std.specs.Prelude.{◌≡◌, ◌≤◌, length, All, IfOk, IfErr};
 ghost use Rattle.actor_run.specs.Cursors.{IsCursorFor, IsNoAnswer};
+ghost use Rattle.actor_run.specs.Everything.{CostsFew};
 ghost use Rattle.actor_run.specs.Passes.{IsPassOf};
 ghost use Rattle.actor_run.specs.Sessions.{BecomesPass, DoesInsert, DoesQuery, DoesSync, DoesTryInsert, DoesTryQuery, IsPassFor, IsSessionRole, IsSessionWith, session_of};
 ghost use Rattle.dim_hierarchy.specs.Names.{IsNamePick};
@@ -156,6 +157,7 @@ impl<'a> Session<'a> {
         requires some { All IsNamePick filter.now }
         ensures does { DoesQuery result filter.now self.old self.new }
         ensures kept { steps.old ≤ steps.new }
+        ensures steps { CostsFew self.new.floor filter.now self.new.seen steps.old steps.new }
     {
         match self.try_query(rt, alloc, filter, meet, steps) {
             Ok(asked) => asked,
@@ -176,6 +178,7 @@ impl<'a> Session<'a> {
         requires some { All IsNamePick filter.now }
         ensures does { DoesTryQuery result filter.now self.old self.new }
         ensures kept { steps.old ≤ steps.new }
+        ensures steps { CostsFew self.new.floor filter.now self.new.seen steps.old steps.new }
     {
         let hall = self.hall;
         query(

@@ -1,7 +1,7 @@
 use Rattle.actor_run.specs.Doing.{HasDone, HasRefused}
 use Rattle.std.proofs.Common.{ap, subst}
 use Rattle.actor_run.specs.Driving.{EndsSince}
-use Rattle.actor_run.proofs.{Ends.{query-answered, query-failed, query-nothing, query-open, query-refused, query-unacked}, Sessions.{as-before, can-begin, refused-later}}
+use Rattle.actor_run.proofs.{Ends.{query-answered, query-failed, query-nothing, query-open, query-refused, query-unacked}, Everything.spent-none, Sessions.{as-before, can-begin, refused-later}}
 use Rattle.whole_steps.specs.session_steps.specs.declared.commands.End.{End}
 use Rattle.whole_steps.specs.volap_cell.specs.Values.{ActorValue}
 use Rattle.actor_run.proofs.calls.query_with.Goals as goal
@@ -59,3 +59,11 @@ returns-in_default-clause-does g c names named server s =
     let before = as-before f server was s c.ask.new.player c.in_default.ensures.same in
     let did = refused-later c.refuse.result f server was c.ask.new.player c.refuse.new.player before (c.refuse.ensures.does server before.session) in
     query-refused f server was c.refuse.new.player names (subst (λ r. HasDone f (HasRefused r) server was c.refuse.new.player) c.in_ok-refuse.was did)
+
+pub returns-in-Answered-clause-steps : goal.returns-in-Answered-clause-steps
+returns-in-Answered-clause-steps g c all =
+    c.drive-end.ensures.steps (spent-none c.args.floor.now c.in-Some.of c.args.filter c.args.player.now c.ask.new.player c.in-Some.ensures.begun c.requires.session.1.free.errand all c.args.steps.now)
+
+pub returns-in-Failed-clause-steps : goal.returns-in-Failed-clause-steps
+returns-in-Failed-clause-steps g c all =
+    c.drive-end.ensures.steps (spent-none c.args.floor.now c.in-Some.of c.args.filter c.args.player.now c.ask.new.player c.in-Some.ensures.begun c.requires.session.1.free.errand all c.args.steps.now)

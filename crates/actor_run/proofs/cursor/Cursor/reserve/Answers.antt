@@ -8,7 +8,7 @@ use Rattle.actor_run.proofs.cursor.Cursor.reserve.Goals as goal
 pub invariant_of-self : goal.invariant_of-self
 invariant_of-self c =
     let i = c.self.inside in
-    cursor-reserved i.hall.now i.player c.reserve_notes.new.actor c.reserve_notes.ensures.same i.server i.was.value i.of i.filter.value c.self.invariant
+    cursor-reserved i.hall.now i.player c.reserve_notes.new.actor c.reserve_notes.ensures.same c.reserve_notes.ensures.went i.server i.was.value i.of i.filter.value c.self.invariant
 
 pub returns-clause-ok : goal.returns-clause-ok
 returns-clause-ok c = c.reserve_notes.ensures.ok

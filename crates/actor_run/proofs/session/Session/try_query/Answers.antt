@@ -1,5 +1,5 @@
 use Rattle.std.proofs.Common.{◌∙◌, ℕ, length, sym, ap, subst}
-use Rattle.actor_run.specs.{Doing.Does, Sessions.{DoesTryQuery, TriesQuery, IsSession, SessionValue, session_of}}
+use Rattle.actor_run.specs.{Doing.Does, Everything.CostsFew, Sessions.{DoesTryQuery, TriesQuery, IsSession, SessionValue, session_of}}
 use Rattle.whole_steps.specs.session_steps.proofs.Servers.{server-below}
 use Rattle.whole_steps.specs.seat_steps.specs.declared.floor.Floor.{Floor}
 use Rattle.actor_run.proofs.session.Session.try_query.Goals as goal
@@ -32,4 +32,5 @@ returns g c =
     record {
       does = subst (λ (v : SessionValue). DoesTryQuery c.query.result c.args.filter.now v (session_of i.hall.now i.server c.query.new.player)) c.self.view_is (record { goes = did.goes; tries = did.ends });
       kept = c.query.ensures.kept;
+      steps = subst (λ (f : Floor). CostsFew f c.args.filter.now c.query.new.player.seat.view.seen c.args.steps.now c.query.new.steps) c.hall.view_is c.query.ensures.steps;
     }
