@@ -5,7 +5,7 @@ use native.Mathlib.Decide.{dec_lt}
 use Rattle.std.proofs.lemmas.Bool.Decides.{nat_tests}
 use Rattle.std.specs.Prelude.{option_and_then, if◌then◌else◌}
 use Rattle.actor_run.specs.Everything.{AreAllPicks, HasSpent, IsFew, IsFewFor}
-use Rattle.core_counts.specs.{Ahead.{most_ahead, moves, splits}, Counting.{one_more, went_after, went_if}}
+use Rattle.whole_steps.specs.core_counts.specs.{Ahead.{most_ahead, moves, splits}, Counting.{one_more, went_after, went_if}}
 use Rattle.dim_hierarchy.specs.{Dimension.Dimension, Filter.{IsFilterNamed, pick_at, pick_named, picks}, declared.filter.{NamePick.NamePick, Pick.Pick}}
 use Rattle.dim_hierarchy.specs.declared.filter.Pick.TheVariants as pick
 use Rattle.dim_hierarchy.specs.declared.filter.NamePick.TheVariants as by_name

@@ -1,6 +1,6 @@
 -- A session's query over everything: how many steps are counted for it.
 use Rattle.std.specs.Prelude.{ℕ, ◌≡◌, ◌+◌, ◌*◌, ◌-◌, ◌^◌, ◌≤◌, ◌⊎◌, List, All as Each, Option, Some, None}
-use Rattle.core_counts.specs.Ahead.{moves, splits}
+use Rattle.whole_steps.specs.core_counts.specs.Ahead.{moves, splits}
 use Rattle.dim_hierarchy.specs.declared.filter.NamePick.{NamePick}
 use Rattle.dim_hierarchy.specs.declared.filter.NamePick.TheVariants.{All}
 use Rattle.row_ledger.specs.{Past.{Query, query_at}, declared.event.Event.Event}
