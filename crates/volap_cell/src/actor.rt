@@ -38,4 +38,7 @@ pub struct Actor {
     pub job: Option<Box<Job>>,
     /// The administrator's: the gates that are gone, as long as their own cells are not free again.
     pub gone_gates: GoneGates,
+    /// How many parts of its open command it has ended or sent on. No rule of the core reads or changes it: it is
+    /// counted where each actor makes its steps by turns.
+    pub went: u64,
 }

@@ -206,6 +206,7 @@ fn actor(alloc: Global, h: &Hierarchy, with: &Use, roles: &RoleList, number: u16
         errand: None,
         job: None,
         gone_gates: GoneGates::new(alloc),
+        went: 0,
     }
 }
 
