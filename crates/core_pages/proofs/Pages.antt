@@ -62,13 +62,13 @@ module _ (table : Table) (home : ℕ) (gate : Gate) (blocks : CellBlocks) (g : S
 
   -- aggregates and sets
 
-  agg-ok : (l : ℕ) (e : Entry) → l < gate.height → Entry_ok l e → e.agg ≡ agg (rows_at blocks l e)
+  pub agg-ok : (l : ℕ) (e : Entry) → l < gate.height → Entry_ok l e → e.agg ≡ agg (rows_at blocks l e)
   agg-ok l e lt ok =
       ok.summary.agg
       ∙ (order table (g.below e.child) (numbers (rows_at blocks l e)) e.set (λ r. sym (rows-ok table home gate blocks g still l e lt ok r))).0
       ∙ ap agg (rows-named table (rows_at blocks l e) (named-ok table home gate blocks g still l e lt ok))
 
-  set-ok : (l : ℕ) (e : Entry) → l < gate.height → Entry_ok l e → IsSetOf table.hierarchy (coords (rows_at blocks l e)) e.set
+  pub set-ok : (l : ℕ) (e : Entry) → l < gate.height → Entry_ok l e → IsSetOf table.hierarchy (coords (rows_at blocks l e)) e.set
   set-ok l e lt ok = subst (λ rs. IsSetOf table.hierarchy (coords rs) e.set) (rows-named table (rows_at blocks l e) (named-ok table home gate blocks g still l e lt ok))
       ((order table (g.below e.child) (numbers (rows_at blocks l e)) e.set (λ r. sym (rows-ok table home gate blocks g still l e lt ok r))).1 ok.summary.set_of)
 

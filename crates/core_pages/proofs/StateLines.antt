@@ -16,7 +16,7 @@ use Rattle.core_pages.specs.{Looks.{IsValid, StateValue, cells_in, gate_in, gate
 use Rattle.core_pages.proofs.{LookedAt.there-unless, StateTrees.{has-rows, queue-is, tree-sums, tree_rows}}
 
 -- what holds of each element holds of that at a place
-each-at : {A : Type 0} (P : A → Type 0) (xs : List A) (i : ℕ) (x : A) → Each P xs → slice_get xs i ≡ Some x → P x
+pub each-at : {A : Type 0} (P : A → Type 0) (xs : List A) (i : ℕ) (x : A) → Each P xs → slice_get xs i ≡ Some x → P x
 each-at {A} P [] i x each found = (let never : ◌≡◌ {A = Option A} None (Some x) = found in absurd (cc))
 each-at P (y ∷ xs) zero x each found = (let same : y ≡ x = cc in subst P same each.0)
 each-at P (y ∷ xs) (suc i) x each found = each-at P xs i x each.1 found
@@ -43,16 +43,16 @@ module _ (s : Setting) (w : World) (ghost : Ghost) (inv : InvWith s (view s w) g
 
   -- a spot's gate
   module _ (spot : Spot) (there : IsThere spot) where
-    abbrev at : ℕ
+    abbrev pub at : ℕ
     at = ghost.gate spot.shard
 
     abbrev gate : Gate
     gate = gate_in (w.cells at)
 
-    can : CanSee w at
+    pub can : CanSee w at
     can = (let led = inv.lineage.gate_of spot.shard spot.worker there in record { gate = subst IsSome (sym led.1) refl; stands = led.2; quiet = quiet })
 
-    place-is : gate_place s.servers w.cells spot ≡ at
+    pub place-is : gate_place s.servers w.cells spot ≡ at
     place-is = ap gate_there (inv.lineage.gate_of spot.shard spot.worker there).0
 
     abbrev rows : List Row

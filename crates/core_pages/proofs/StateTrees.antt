@@ -66,7 +66,7 @@ module _ (s : Setting) (w : World) (ghost : Ghost) (inv : InvWith s (view s w) g
       (λ q o. let never : InTree at ≡ NotOfStock = sym (inv.stocking.tree at y whole inside (eqb-false _ _ q)).0 ∙ o in cc))).1
 
   -- a tree of the state, as a page reads it
-  as-read : (g : Shape) → IsTree table (cells_at v.blocks v.trees at) g → IsTree table (cells_with at gate blocks) g
+  pub as-read : (g : Shape) → IsTree table (cells_at v.blocks v.trees at) g → IsTree table (cells_with at gate blocks) g
   as-read g tree =
       let same : cells_at v.blocks v.trees at ≡ record { gate_cell = at; gate = way_to_tree gate; block = v.blocks } = λ k. record { gate_cell = at; gate = way_in (gate_cell k); block = v.blocks } in
       let t : IsTree table (record { gate_cell = at; gate = way_to_tree gate; block = v.blocks }) g = subst (λ (c : TreeCells). IsTree table c g) same tree in
@@ -84,10 +84,10 @@ module _ (s : Setting) (w : World) (ghost : Ghost) (inv : InvWith s (view s w) g
         blocks = t.blocks;
       }
 
-  still : IsStill table at gate blocks g0
+  pub still : IsStill table at gate blocks g0
   still = record { tree = as-read g0 (inv.growing.tree at whole); settled = settled; known = known }
 
-  tall : 0 < gate.height
+  pub tall : 0 < gate.height
   tall = still.tree.some
 
   -- the numbers of the tree's rows, and the rows

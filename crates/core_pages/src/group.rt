@@ -13,7 +13,7 @@ use dc_node::{Block, Body, Entry};
 use std::alloc::{AllocError, Global};
 
 /// What a walk keeps of each block.
-pub(crate) trait Keep {
+pub trait Keep {
     ghost use Rattle.std.specs.Prelude.{List};
     ghost use Rattle.dc_node.specs.declared.block.Block.{Block};
 
@@ -29,7 +29,7 @@ pub(crate) trait Keep {
 }
 
 /// Keeps copies of the entries.
-pub(crate) struct Entries;
+pub struct Entries;
 
 impl Keep for Entries {
     type Item = Entry;
@@ -46,10 +46,10 @@ impl Keep for Entries {
 
 /// A group: how many blocks were looked at, how many items these have together, and what is kept of them.
 #[derive(Drop)]
-pub(crate) struct Group<T> {
-    pub(crate) blocks: u64,
-    pub(crate) items: u64,
-    pub(crate) kept: Vec<T>,
+pub struct Group<T> {
+    pub blocks: u64,
+    pub items: u64,
+    pub kept: Vec<T>,
 }
 
 /// How many items a block has, and the cell of the one that follows in its group.
@@ -116,7 +116,7 @@ fn see<C: Cells, K: Keep>(
 }
 
 /// The group of an entry. Looks at each of its blocks once. Takes memory for what is kept.
-pub(crate) fn group_of<C: Cells, K: Keep>(
+pub fn group_of<C: Cells, K: Keep>(
     alloc: Global,
     cells: &mut C,
     many: u32,

@@ -11,7 +11,7 @@ use describing_set::Spot;
 use mapping_table::Where;
 
 /// How many spots the registry has.
-pub(crate) fn spot_count<C: Cells>(cells: &mut C) -> usize
+pub fn spot_count<C: Cells>(cells: &mut C) -> usize
     requires stands { IsSome ((C.state cells.old).cells registry_cell) }
     ensures same { C.state cells.new ≡ C.state cells.old }
     ensures value { result ≡ length (frontier_in (cells_in (C.state cells.old))) }
@@ -59,7 +59,7 @@ fn gate_place<C: Cells>(cells: &mut C, servers: u8, spot: &Spot) -> u32
 
 /// The spot at a place of the registry, and the cell of the gate to which the table of its worker leads,
 /// where there are so many servers. Looks at two cells.
-pub(crate) fn led_at<C: Cells>(cells: &mut C, servers: u8, place: usize) -> (Spot, u32)
+pub fn led_at<C: Cells>(cells: &mut C, servers: u8, place: usize) -> (Spot, u32)
     requires leads { CanLead servers (C.state cells.old) }
     requires within { place < length (frontier_in (cells_in (C.state cells.old))) }
     ensures same { C.state cells.new ≡ C.state cells.old }

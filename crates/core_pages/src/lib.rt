@@ -20,6 +20,8 @@ mod trees;
 mod walk;
 
 pub use audits::audit_page;
+pub use group::{Entries, Group, Keep, group_of};
+pub use leads::{led_at, spot_count};
 pub use looks::{Cells, Lent};
 pub use shards::shards_page;
 pub use trees::tree_page_at;
