@@ -1,10 +1,10 @@
 -- What is added of rows that a set tells.
-use Rattle.std.proofs.Common.{ℕ, ◌≡◌, ◌≢◌, true, false, List, All as Every, refl, sym, ap, ◌∙◌, subst}
+use Rattle.std.proofs.Common.{ℕ, ◌≡◌, ◌≢◌, true, false, List, All as Every, refl, sym, ap, ◌∙◌}
 use Rattle.dim_hierarchy.specs.{Rows.IsRowOf, declared.row.Row.Row}
 use Rattle.dc_node.specs.Summary.{coords}
 use Rattle.describing_set.specs.{DescSet.IsSetOf, declared.set.DescSet.DescSet}
 use Rattle.measure_agg.specs.Aggregate.{Aggregate}
-use Rattle.group_answer.specs.{Adding.{IsAdded, with_line, with_rows}, Groups.Question, Telling.{IsNarrow, IsOfAll, IsTold}}
+use Rattle.group_answer.specs.{Adding.{IsAdded, with_line}, Groups.Question, Telling.{IsNarrow, IsOfAll, IsTold}}
 use Rattle.group_answer.specs.declared.page.GroupLine.{GroupLine}
 use Rattle.group_answer.specs.declared.told.Told.{Told}
 use Rattle.group_answer.specs.declared.told.Told.TheVariants.{NoRow, Under, Unknown}

@@ -1,7 +1,7 @@
 -- Lines to which rows are added are the groups of these rows, in whatever order they come.
-use Rattle.std.proofs.{Common.{ℕ, ◌≡◌, ◌≢◌, ◌<◌, ◌⊎◌, ◌==◌, Bool, true, false, eqb, List, [], ◌∷◌, ◌++◌, map, filter, refl, sym, ap, ◌∙◌, subst, arith, inl, inr}, lemmas.Bool.{eq-eqb, ne_eqb}, lemmas.List.{append-nil, map-append}, lemmas.List.Elements.filter-append, lemmas.List.Sorted.{IsPermutation-cons, IsPermutation-middle, IsPermutation-refl, IsPermutation-sym, IsPermutation-trans}}
+use Rattle.std.proofs.{Common.{ℕ, ◌≡◌, ◌≢◌, ◌==◌, Bool, true, false, List, [], ◌∷◌, ◌++◌, map, filter, refl, sym, ap, ◌∙◌, subst, arith, inl, inr}, lemmas.Bool.{eq-eqb, ne_eqb}, lemmas.List.{append-nil, map-append}, lemmas.List.Elements.filter-append, lemmas.List.Sorted.{IsPermutation-cons, IsPermutation-middle, IsPermutation-refl, IsPermutation-sym, IsPermutation-trans}}
 use Rattle.std.specs.Prelude.{IsPermutation}
-use Rattle.describing_set.specs.{Ascending.{ascending, with_id}, Sorted.{Ascends, Below, In}}
+use Rattle.describing_set.specs.{Ascending.{ascending, with_id}, Sorted.{Ascends, In}}
 use Rattle.describing_set.proofs.Sorted.{Ascends-ascending, Below-In, In-append_cases, In-append_left, In-append_right, In-ascending, ascending-same, three_ways, with_id-after, with_id-before, with_id-here}
 use Rattle.dim_hierarchy.specs.{Filter.matches, declared.row.Row.Row}
 use Rattle.list_words.proofs.Truth.{on_bool}

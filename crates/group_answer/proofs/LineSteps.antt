@@ -1,9 +1,8 @@
 -- Lines as an aggregate is added.
-use Rattle.std.proofs.{Common.{ℕ, zero, suc, ◌≡◌, ◌≢◌, ◌+◌, ◌<◌, ◌≤◌, ◌⊎◌, Bool, true, false, nat_lt, nat_eq, List, [], ◌∷◌, ◌++◌, length, map, take, drop, get_or, set, Some, refl, sym, ap, ◌∙◌, subst, arith, inl, inr}, lemmas.Bool.{cases_lt, Decides.nat_tests}, lemmas.List.{drop_all, drop_more, get_or_default, set_split}, lemmas.Option.slice_get-get_or}
+use Rattle.std.proofs.{Common.{ℕ, zero, suc, ◌≡◌, ◌≢◌, ◌+◌, ◌<◌, ◌≤◌, ◌⊎◌, true, false, nat_lt, nat_eq, List, [], ◌∷◌, ◌++◌, length, take, drop, get_or, set, refl, sym, ap, ◌∙◌, subst, arith, inl, inr}, lemmas.Bool.{cases_lt, Decides.nat_tests}, lemmas.List.{drop_all, drop_more, get_or_default, set_split}, lemmas.Option.slice_get-get_or}
 use Rattle.std.specs.{List.insert, Prelude.IfSome}
-use Rattle.dc_node.specs.Summary.{joined}
-use Rattle.measure_agg.specs.{Aggregate.{Aggregate, agg}, Joining.join}
-use Rattle.measure_agg.proofs.AggLaws.{join_associative, join_commutative, join_empty_left, join_empty_right}
+use Rattle.measure_agg.specs.{Aggregate.{Aggregate}, Joining.join}
+use Rattle.measure_agg.proofs.AggLaws.{join_associative, join_commutative}
 use Rattle.group_answer.specs.{Adding.{IsPlaceOf, with_line}, Groups.{all_of, line}}
 use Rattle.group_answer.specs.declared.page.GroupLine.{GroupLine}
 

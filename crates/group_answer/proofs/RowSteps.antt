@@ -1,5 +1,5 @@
 -- Lines as rows are added: one by one, by an aggregate, or not at all.
-use Rattle.std.proofs.{Common.{ℕ, ◌≡◌, ◌≢◌, ◌+◌, ◌<◌, ◌≤◌, Bool, true, false, List, [], ◌∷◌, ◌++◌, length, refl, sym, ap, ◌∙◌, arith}}
+use Rattle.std.proofs.{Common.{ℕ, ◌≡◌, ◌+◌, ◌≤◌, true, false, List, [], ◌∷◌, ◌++◌, length, refl, sym, ap, ◌∙◌, arith}}
 use Rattle.dim_hierarchy.specs.{Filter.matches, declared.row.Row.Row}
 use Rattle.list_words.specs.Counts.{Each}
 use Rattle.list_words.proofs.Truth.{on_bool}

@@ -1,5 +1,5 @@
 -- Where nobody has anything to do, the rows of the shards that stand are the acknowledged ones.
-use Rattle.std.proofs.{Common.{ℕ, ◌≡◌, ◌+◌, ◌≤◌, ◌<◌, List, [], ◌∷◌, ◌++◌, Bool, true, false, cond, map, Option, Some, None, Contains, inl, inr, refl, sym, ap, ◌∙◌, subst, arith}, lemmas.Bool.cases_lt, lemmas.List.map-append, lemmas.List.Elements.All-contains_itself}
+use Rattle.std.proofs.{Common.{ℕ, ◌≡◌, ◌≤◌, List, [], ◌∷◌, ◌++◌, true, false, cond, map, Contains, inl, inr, refl, sym, ap, ◌∙◌, subst, arith}, lemmas.Bool.cases_lt, lemmas.List.map-append, lemmas.List.Elements.All-contains_itself}
 use Rattle.std.specs.{List.AllZip, Prelude.flat_map}
 use Rattle.describing_set.specs.declared.listing.Spot.{Spot}
 use Rattle.dim_hierarchy.specs.declared.row.Row.{Row}
@@ -9,7 +9,7 @@ use Rattle.row_ledger.specs.{Past.{Ack, acked, acked_rows}, Right.{EachEvent, St
 use Rattle.row_ledger.proofs.Ended.{acked-distinct}
 use Rattle.core_pages.specs.tree_shape.specs.Shape.{Table, numbers}
 use Rattle.core_pages.specs.tree_shape.proofs.Whole.Sums.{rows-named}
-use Rattle.core_pages.specs.volap_cell.specs.{Ghost.Ghost, Growing.table_of, Invariant.InvWith, Setting.{Setting, site_in}, Sights.{HasAll, IsIdle}, Steps.Inv, View.{View, view}, World.World, declared.command.Command.Command}
+use Rattle.core_pages.specs.volap_cell.specs.{Ghost.Ghost, Growing.table_of, Invariant.InvWith, Setting.{Setting, site_in}, Sights.{HasAll, IsIdle}, View.{View, view}, World.World}
 use Rattle.core_pages.specs.core_image.proofs.{Images.Valid.acked-placed, Pages.RowsDivided.{count-parts, home-once}}
 use Rattle.group_answer.specs.{Groups.{IsGroupPage, Question}, Seen.{AreAckedIn, AreGroupsIn, SeesGroups}}
 use Rattle.group_answer.specs.declared.page.GroupPage.{GroupPage}

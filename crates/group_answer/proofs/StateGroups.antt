@@ -1,24 +1,24 @@
 -- Where nobody is at a part, the gates to which the tables lead can be read, and their rows are those of the shards that stand.
-use Rattle.std.proofs.{Common.{ℕ, zero, suc, ◌≡◌, ◌≢◌, ◌+◌, ◌-◌, ◌^◌, ◌<◌, ◌≤◌, List, [], ◌∷◌, ◌++◌, length, map, take, drop, Some, None, refl, sym, ap, ◌∙◌, subst, arith}, lemmas.List.{append-nil, length-append, take-append-drop, take_more}, lemmas.List.Concat.flat_map-append, lemmas.List.Sorted.IsPermutation-sym, lemmas.Option.{get_or_from_slice_get, slice_get_within}}
+use Rattle.std.proofs.{Common.{ℕ, zero, suc, ◌≡◌, ◌+◌, ◌-◌, ◌^◌, ◌<◌, List, [], ◌∷◌, ◌++◌, length, map, take, drop, Some, None, refl, sym, ap, ◌∙◌, subst, arith}, lemmas.List.{append-nil, length-append, take-append-drop, take_more}, lemmas.List.Concat.flat_map-append, lemmas.List.Sorted.IsPermutation-sym, lemmas.Option.{get_or_from_slice_get, slice_get_within}}
 use Rattle.std.specs.{List.AllZip, Prelude.{flat_map, slice_get}}
 use Rattle.dc_node.specs.{Summary.{IsSummaryOf, coords}, declared.entry.Entry.Entry}
 use Rattle.dc_node.proofs.Summaries.{moved_summary, valid_coords}
 use Rattle.describing_set.specs.declared.listing.Spot.{Spot}
 use Rattle.describing_set.proofs.Laws.{IsSetOf-same}
 use Rattle.dim_hierarchy.specs.{Dimension.{Dimension, IsHierarchy}, declared.row.Row.Row}
-use Rattle.list_words.specs.Counts.{Each, times}
+use Rattle.list_words.specs.Counts.{Each}
 use Rattle.list_words.proofs.Each.{each-map}
 use Rattle.measure_agg.specs.Aggregate.{Aggregate}
 use Rattle.measure_agg.proofs.AggLaws.{agg-IsPermutation}
 use Rattle.core_pages.specs.shard_store.specs.{Gate.root_entry, declared.gate.Gate.Gate}
-use Rattle.core_pages.specs.tree_shape.specs.{PageLines.{CellBlocks, group_entries}, Shape.{Shape, Table, numbers}}
+use Rattle.core_pages.specs.tree_shape.specs.{PageLines.{CellBlocks, group_entries}, Shape.{Shape, Table}}
 use Rattle.core_pages.specs.volap_cell.specs.{Cells.{CellValue, queue_in}, Ghost.Ghost, Growing.table_of, Invariant.InvWith, Setting.{Setting, cell_count}, Sights.{HasAll, HasRows, blocks_seen}, Steps.Inv, View.{View, view}, World.World}
-use Rattle.core_pages.specs.{Looks.{IsSeenOf, IsValid, StateValue, blocks_of, cells_in, gate_in}, Seen.{CanSee, IsQuietIn}, Shards.{frontier_in, gate_of, gate_place}, Still.IsStill}
+use Rattle.core_pages.specs.{Looks.{IsSeenOf, IsValid, StateValue, blocks_of, cells_in, gate_in}, Seen.{CanSee, IsQuietIn}, Shards.{frontier_in, gate_place}, Still.IsStill}
 use Rattle.core_pages.proofs.{AnyShape.same-placed, Counts.{IsEntry, entries-ok, named-ok, root-ok, rows-ok}, Listing.rows_at as listed_at, Numbers.perm-rows, StateLines.{IsThere, all-there, at, can, each-at, place-is}, StateTrees.{as-read, has-gate, queue-is, still, tall}}
 use Rattle.core_pages.specs.core_image.proofs.Pages.RowsDivided.{few-rows}
-use Rattle.group_answer.specs.{Adding.with_rows, Groups.{IsGroupPage, Question, all_of, groups}, Reading.{AreSummed, IsReadable, IsSummed, rows_at, rows_of, rows_of_spot, rows_of_spots}, Seen.{AreGroupsIn, HasCountIn, SeesGroups}}
+use Rattle.group_answer.specs.{Adding.with_rows, Groups.{IsGroupPage, Question, all_of}, Reading.{AreSummed, IsReadable, IsSummed, rows_at, rows_of, rows_of_spot, rows_of_spots}, Seen.{AreGroupsIn, HasCountIn, SeesGroups}}
 use Rattle.group_answer.specs.declared.page.{GroupLine.GroupLine, GroupPage.GroupPage}
-use Rattle.group_answer.proofs.{Grouped.{IsShuffled, all-groups, grouped, groups-shuffled, matching-shuffled, shuffled-same}, Orders.{shuffled-append, shuffled-comm, shuffled-length}, RowSteps.rows-few}
+use Rattle.group_answer.proofs.{Grouped.{IsShuffled, all-groups, grouped, groups-shuffled, matching-shuffled}, Orders.{shuffled-append, shuffled-comm, shuffled-length}, RowSteps.rows-few}
 
 -- the rows beneath an entry are those that its groups of leaves have
 listed-same : (blocks : CellBlocks) (level : ℕ) (e : Entry) → rows_at blocks level e ≡ listed_at blocks level e
@@ -92,9 +92,6 @@ module _ (s : Setting) (w : World) (ghost : Ghost) (inv : InvWith s (view s w) g
 
     readable : IsReadable s.hierarchy blocks (w.cells (gate_place s.servers w.cells spot))
     readable = subst (λ (y : ℕ). IsReadable s.hierarchy blocks (w.cells y)) (sym (place-is s w ghost inv quiet spot there)) readable-here
-
-    tree : List Row
-    tree = listed_at blocks (gate.height - 1) root
 
     its-rows : HasRows s v spot.shard (listed_at blocks (gate.height - 1) root) gate.queue.rows
     its-rows = record {

@@ -1,7 +1,7 @@
 -- What is known of the rows beneath entries, level by level.
-use Rattle.std.proofs.Common.{ℕ, zero, suc, ◌≡◌, List, refl, ap, subst}
+use Rattle.std.proofs.Common.{ℕ, zero, suc, ◌≡◌, List, ap, subst}
 use Rattle.std.specs.List.{flat_map}
-use Rattle.dim_hierarchy.specs.{Dimension.Dimension, declared.row.Row.Row}
+use Rattle.dim_hierarchy.specs.{Dimension.Dimension}
 use Rattle.dc_node.specs.declared.entry.Entry.{Entry}
 use Rattle.list_words.specs.Counts.{Each}
 use Rattle.core_pages.specs.tree_shape.specs.PageLines.{CellBlocks, group_entries}

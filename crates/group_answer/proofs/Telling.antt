@@ -1,13 +1,13 @@
 -- What a set tells of the rows that it is the set of.
-use Rattle.std.proofs.{Common.{ℕ, ◌≡◌, ◌≢◌, ◌<◌, ◌≤◌, Bool, true, false, Option, Some, None, List, [], ◌∷◌, length, map, All as Every, Contains, refl, sym, ap, ◌∙◌, subst, arith}, lemmas.List.Elements.{All-contains, All-contains_itself}}
+use Rattle.std.proofs.{Common.{ℕ, ◌≡◌, ◌≢◌, ◌<◌, ◌≤◌, true, false, Option, Some, None, List, [], length, All as Every, Contains, sym, ap, ◌∙◌, subst, arith}, lemmas.List.Elements.{All-contains, All-contains_itself}}
 use Rattle.std.specs.Prelude.{IfNone}
 use Rattle.dim_hierarchy.specs.{Concept.level_of, Dimension.tree, Filter.matches, Meaning.{IsPicked, Matches}, Row.{IsCoordOf, concept_at}, Rows.IsRowOf, Tree.{Tree, leaf_level, up}, declared.filter.Pick.Pick, declared.row.Coord.Coord, declared.row.Row.Row}
 use Rattle.dim_hierarchy.proofs.{Ancestors.up-up, Matching.matches-Matches}
 use Rattle.dc_node.specs.Summary.{coords}
-use Rattle.describing_set.specs.{DescSet.{IsSetOf, column, part_at}, Filter.IsInside, Part.ancestors, Sets.{Covers, IsDescSetOf}, declared.part.Part.Part, declared.set.DescSet.DescSet}
+use Rattle.describing_set.specs.{DescSet.{IsSetOf, part_at}, Filter.IsInside, Sets.{Covers, IsDescSetOf}, declared.part.Part.Part, declared.set.DescSet.DescSet}
 use Rattle.describing_set.proofs.{Covering.IsSetOf-Covers, Filters.inside_matches, Parts.part_from-few, Sets.{IsPart-concepts, part_at-IsPart, part_at-above}, Sorted.All-from_In}
 use Rattle.list_words.specs.Counts.{Each}
-use Rattle.list_words.proofs.{Each.{each-all, each-both, each-map}, Elements.{Contains-map, Contains-nil}, Truth.on_bool}
+use Rattle.list_words.proofs.{Each.{each-all, each-both, each-map}, Elements.{Contains-map}, Truth.on_bool}
 use Rattle.group_answer.specs.{Groups.{IsQuestion, Question, concept_of}, Telling.{AreBelow, AreUnder, IsCommon, IsOfAll}}
 
 -- where nothing is there, what follows of the one fact follows of the other

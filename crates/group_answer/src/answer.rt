@@ -13,7 +13,6 @@ use crate::found::Found;
 use crate::gates::add_gate;
 use crate::lines::all_of;
 use crate::page::{GroupLines, GroupPage};
-use core_pages::tree_shape::tree_laws;
 use core_pages::{Cells, led_at, spot_count};
 use dim_hierarchy::{Filter, Hierarchy};
 use std::alloc::{AllocError, Global};
@@ -38,7 +37,6 @@ fn add_shards<C: Cells>(
     ensures lines { OnOk result (found.new.lines.items ≡ with_rows asked.now (rows_of_spots servers many (cells_in (C.state cells.old)) (frontier_in (cells_in (C.state cells.old)))) []) }
     ensures looks { TellsAll asked.now servers (C.state cells.old) → found.new.looks ≤ length (frontier_in (cells_in (C.state cells.old))) }
 {
-    tree_laws();
     for place in 0..spot_count(cells) {
         let (_, at) = led_at(cells, servers, place);
         add_gate(alloc, cells, many, asked, at, found)?;

@@ -1,7 +1,7 @@
-use Rattle.std.proofs.{Common.{ℕ, List, [], ◌≡◌, ◌+◌, ◌≤◌, length, take, sym, ap, ◌∙◌, subst, arith}, lemmas.List.take_all}
+use Rattle.std.proofs.{Common.{List, [], ◌≡◌, length, take, sym, ap, ◌∙◌, subst, arith}, lemmas.List.take_all}
 use Rattle.describing_set.specs.declared.listing.Spot.{Spot}
 use Rattle.dim_hierarchy.specs.declared.row.Row.{Row}
-use Rattle.core_pages.specs.{Looks.{HasCells, StateValue, blocks_of, cells_in, gate_in}, Shards.{CanLead, frontier_in, gate_of}}
+use Rattle.core_pages.specs.{Looks.{HasCells, StateValue, blocks_of, cells_in, gate_in}, Shards.{CanLead, frontier_in}}
 use Rattle.core_pages.specs.volap_cell.specs.Cells.{CellValue}
 use Rattle.core_pages.proofs.StateLines.{can-lead, gate-at}
 use Rattle.group_answer.specs.{Adding.with_rows, Groups.all_of, Reading.{IsReadable, rows_of, rows_of_spot, rows_of_spots}, Telling.IsNarrow}

@@ -1,7 +1,6 @@
-use Rattle.std.proofs.{Common.{List, ◌-◌, ◌≡◌, length, sym, ap, ◌∙◌, subst, arith}, lemmas.List.length-append}
-use Rattle.core_pages.specs.Looks.{StateValue, blocks_of, cells_in, gate_in}
+use Rattle.std.proofs.{Common.{List, ◌-◌, ◌≡◌, length, sym, ap, ◌∙◌, arith}, lemmas.List.length-append}
+use Rattle.core_pages.specs.Looks.{blocks_of, cells_in, gate_in}
 use Rattle.core_pages.specs.shard_store.specs.Gate.{root_entry}
-use Rattle.dim_hierarchy.specs.declared.row.Row.{Row}
 use Rattle.group_answer.specs.{Adding.with_rows, Groups.all_of, Reading.rows_at}
 use Rattle.group_answer.specs.declared.page.GroupLine.{GroupLine}
 use Rattle.group_answer.proofs.{RowSteps.{rows-append, rows-few}, Steps.on-ok}

@@ -1,4 +1,4 @@
-use Rattle.std.proofs.{Common.{ℕ, ◌+◌, ◌≡◌, ◌<◌, List, length, set, sym, ap, ◌∙◌, subst, eqb-true, arith}, lemmas.Bool.eqb-false, lemmas.List.get_or_default}
+use Rattle.std.proofs.{Common.{◌≡◌, ◌<◌, List, length, set, sym, ap, ◌∙◌, subst, eqb-true, arith}, lemmas.Bool.eqb-false, lemmas.List.get_or_default}
 use Rattle.measure_agg.specs.Aggregate.{Aggregate}
 use Rattle.group_answer.specs.{Adding.IsPlaceOf, Groups.line}
 use Rattle.group_answer.specs.declared.page.GroupLine.{GroupLine}

@@ -1,4 +1,4 @@
-use Rattle.std.proofs.{Common.{List, ◌+◌, ◌≡◌, ◌∷◌, drop, sym, ap, ◌∙◌, arith}, lemmas.List.drop_more}
+use Rattle.std.proofs.{Common.{List, ◌+◌, ◌≡◌, ◌∷◌, drop, sym, ap, ◌∙◌}, lemmas.List.drop_more}
 use Rattle.measure_agg.specs.{Aggregate.Aggregate, Joining.join}
 use Rattle.measure_agg.proofs.AggLaws.{join_associative}
 use Rattle.group_answer.specs.Groups.{all_of}

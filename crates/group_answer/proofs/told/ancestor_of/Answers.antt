@@ -1,4 +1,4 @@
-use Rattle.std.proofs.{Common.{ℕ, ◌+◌, ◌≡◌, All, sym, ap, subst, ◌∙◌, eqb-true, arith}, lemmas.List.take_all, lemmas.List.Elements.All-more}
+use Rattle.std.proofs.{Common.{ℕ, ◌≡◌, All, sym, ap, subst, ◌∙◌, eqb-true}, lemmas.List.take_all, lemmas.List.Elements.All-more}
 use Rattle.dim_hierarchy.specs.{Dimension.tree, Tree.up}
 use Rattle.group_answer.proofs.Steps.{not-back}
 use Rattle.group_answer.proofs.told.ancestor_of.Goals as goal

@@ -1,7 +1,7 @@
 use Rattle.std.proofs.Common.{ℕ, List, ◌≡◌, ◌≤◌, ◌<◌, length, sym, ap, ◌∙◌, subst, arith}
 use Rattle.dim_hierarchy.specs.Dimension.{tree}
 use Rattle.describing_set.specs.{DescSet.part_at, declared.part.Part.Part}
-use Rattle.group_answer.specs.{Groups.Question, Telling.{AreBelow, HaveOneAncestor, IsNarrow, IsOfAll}}
+use Rattle.group_answer.specs.{Groups.Question, Telling.{AreBelow, HaveOneAncestor}}
 use Rattle.group_answer.proofs.Telling.{if-none, part-below}
 use Rattle.group_answer.proofs.told.common.Goals as goal
 

@@ -1,14 +1,12 @@
-use Rattle.std.proofs.{Common.{ℕ, List, ◌≡◌, ◌-◌, ◌+◌, ◌*◌, ◌<◌, ◌∷◌, rules, drop, length, refl, sym, ap, ◌∙◌, subst, suc, arith}, lemmas.List.{drop_all, drop_more, length-append}, lemmas.Option.slice_get_read}
+use Rattle.std.proofs.{Common.{List, ◌≡◌, ◌-◌, ◌+◌, ◌*◌, ◌<◌, ◌∷◌, rules, drop, length, sym, ap, ◌∙◌, subst, suc, arith}, lemmas.List.{drop_more, length-append}}
 use Rattle.std.specs.List.{flat_map}
-use Rattle.dim_hierarchy.specs.declared.row.Row.{Row}
 use Rattle.dc_node.specs.declared.entry.Entry.{Entry}
 use Rattle.list_words.specs.Counts.{Each}
 use Rattle.core_pages.specs.Looks.{HasCells, StateValue, blocks_of, cells_in}
-use Rattle.core_pages.specs.tree_shape.specs.PageLines.{CellBlocks, group_entries}
-use Rattle.core_pages.proofs.StateLines.{each-at}
+use Rattle.core_pages.specs.tree_shape.specs.PageLines.{group_entries}
 use Rattle.group_answer.specs.{Adding.with_rows, Groups.all_of, Reading.{AreSummed, rows_at}}
 use Rattle.group_answer.specs.declared.page.GroupLine.{GroupLine}
-use Rattle.group_answer.proofs.{RowSteps.{rows-append, rows-few}, Steps.on-ok, Summed.{rows-below, summed-below, summed-here}}
+use Rattle.group_answer.proofs.{RowSteps.{rows-append, rows-few}, Steps.on-ok, Summed.{rows-below, summed-below}}
 use Rattle.group_answer.proofs.walk.+walk.Goals as goal
 
 pub add_entries-loop-entry-preserved : goal.add_entries-loop-entry-preserved

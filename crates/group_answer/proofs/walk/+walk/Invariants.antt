@@ -1,4 +1,4 @@
-use Rattle.std.proofs.Common.{◌≡◌, ◌≤◌, ◌+◌, ◌*◌, ◌++◌, length, drop}
+use Rattle.std.proofs.Common.{◌≡◌, ◌≤◌, ◌+◌, ◌*◌, length, drop}
 use Rattle.std.specs.List.{flat_map}
 use Rattle.core_pages.specs.Looks.{blocks_of, cells_in}
 use Rattle.group_answer.specs.{Adding.with_rows, Groups.all_of, Reading.rows_at}

@@ -1,5 +1,5 @@
 use Rattle.std.proofs.Common.{List, ◌≡◌, All, length, sym, ap, ◌∙◌, subst, arith}
-use Rattle.dim_hierarchy.specs.{Rows.IsRowOf, declared.row.Row.Row}
+use Rattle.dim_hierarchy.specs.{Rows.IsRowOf}
 use Rattle.core_pages.specs.Looks.{blocks_of, cells_in}
 use Rattle.group_answer.specs.{Adding.with_rows, Groups.all_of, Reading.rows_at}
 use Rattle.group_answer.specs.declared.page.GroupLine.{GroupLine}

@@ -1,6 +1,5 @@
 use Rattle.std.proofs.{Common.{List, ◌≡◌, ◌+◌, ◌∷◌, drop, sym, ap, ◌∙◌, subst, arith}, lemmas.List.{drop_all, drop_more}}
 use Rattle.dim_hierarchy.specs.{Rows.IsRowOf, declared.row.Row.Row}
-use Rattle.measure_agg.specs.Aggregate.{Aggregate}
 use Rattle.group_answer.specs.{Adding.with_rows, Groups.all_of}
 use Rattle.group_answer.proofs.RowSteps.{row-few}
 use Rattle.group_answer.proofs.found.Found.add_rows.Goals as goal

@@ -1,4 +1,3 @@
-use Rattle.std.proofs.Common.{sym, ap, ◌∙◌}
 use Rattle.group_answer.proofs.Added.{added-none, added-not, added-under}
 use Rattle.group_answer.proofs.found.Found.add_told.Goals as goal
 
