@@ -1,0 +1,10 @@
+pub mod LineSteps
+pub mod RowSteps
+pub mod Grouped
+pub mod Telling
+pub mod Steps
+pub mod Added
+pub mod Summed
+pub mod Orders
+pub mod StateGroups
+pub mod StateAcked
