@@ -172,6 +172,7 @@ module _ (f : Floor) (kind : Kind) (Sees : Setting → World → ℕ → Type 0)
           went = stepped.went;
           told = stepped.told;
           seen = gave.exact ledger-behind ∙ ap (λ (v : View Cell Actor Event). v.seen) stepped.view;
+          counted = stepped.counted;
         };
         whole = λ c e. sym (sole.holds.possible.agrees.fresh c e);
         noted = noted-sole f (player n a mid) sole;
@@ -191,9 +192,9 @@ module _ (f : Floor) (kind : Kind) (Sees : Setting → World → ℕ → Type 0)
 -- Where it found no memory.
 
 -- the actor may have other rooms
-sole-same : (f : Floor) (n : ℕ) (a b : Actor) (s : SeatValue Cell Actor Event) → IsSole f (player n a s) → actor_of b ≡ actor_of a → IsSole f (player n b s)
-sole-same f n a b s sole same = record {
-  holds = same-holds sole.holds s b refl same;
+sole-same : (f : Floor) (n : ℕ) (a b : Actor) (s : SeatValue Cell Actor Event) → IsSole f (player n a s) → actor_of b ≡ actor_of a → b.went ≡ a.went → IsSole f (player n b s)
+sole-same f n a b s sole same uncounted = record {
+  holds = same-holds sole.holds s b refl same uncounted;
   every = sole.every;
   others = sole.others;
   servers = ap (λ (x : ActorValue). x.setting.servers) same ∙ sole.servers;
@@ -202,11 +203,11 @@ sole-same f n a b s sole same = record {
 }
 
 module _ (f : Floor) (n : ℕ) (a b : Actor) (was mid now last : SeatValue Cell Actor Event) (sole : IsSole f (player n a mid)) (turned : HasTurned was mid) (knows : Knows mid ledger_cell) where
-  waited : now ≡ mid → actor_of b ≡ actor_of a → HasTurned now last → HasEveryone f.table last → last.ranks ≡ [] → HasWaited f (player n a was) (player n b last)
-  waited e same gave everyone bare =
+  waited : now ≡ mid → actor_of b ≡ actor_of a → b.went ≡ a.went → HasTurned now last → HasEveryone f.table last → last.ranks ≡ [] → HasWaited f (player n a was) (player n b last)
+  waited e same uncounted gave everyone bare =
       let since : HasTurned mid last = subst (λ (z : SeatValue Cell Actor Event). HasTurned z last) e gave in
       let all = turned-on was mid last turned since in
-      let there = sole-on f (player n b mid) last (sole-same f n a b mid sole same) since everyone in
+      let there = sole-on f (player n b mid) last (sole-same f n a b mid sole same uncounted) since everyone in
       record {
         stands = record { sole = there; bare = bare };
         same = record {
@@ -224,6 +225,6 @@ module _ (f : Floor) (n : ℕ) (a b : Actor) (was mid now last : SeatValue Cell 
         noted = λ q e. subst (λ (x : ActorValue). q < x.seen) same (noted-sole f (player n b last) there q e);
       }
 
-  pub waited-so : {T E : Type 0} (r : Result T E) → OnErr r ((now ≡ mid) × (actor_of b ≡ actor_of a)) → HasTurned now last → HasEveryone f.table last → last.ranks ≡ [] → OnErr r (HasWaited f (player n a was) (player n b last))
-  waited-so (Ok x) same gave everyone bare = tt
-  waited-so (Err x) same gave everyone bare = waited same.0 same.1 gave everyone bare
+  pub waited-so : {T E : Type 0} (r : Result T E) → OnErr r ((now ≡ mid) × (actor_of b ≡ actor_of a)) → OnErr r (b.went ≡ a.went) → HasTurned now last → HasEveryone f.table last → last.ranks ≡ [] → OnErr r (HasWaited f (player n a was) (player n b last))
+  waited-so (Ok x) same uncounted gave everyone bare = tt
+  waited-so (Err x) same uncounted gave everyone bare = waited same.0 same.1 uncounted gave everyone bare

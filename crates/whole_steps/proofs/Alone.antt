@@ -12,7 +12,8 @@ use Rattle.turn_table.specs.{Numbered.{value_of}, Seat.{SeatValue, cell_count}}
 use Rattle.turn_table.proofs.Numbered.{below_length, there}
 use Rattle.core_pages.specs.volap_cell.specs.{Cells.{CellValue, cell_of, ledger_in}, Errands.way_of, Setting.{Setting, ledger_cell}, State.exchange, Steps.{history_in}, Values.{ActorValue, actor_of}, World.MustKeep, declared.actor.Actor.Actor, declared.cell.Cell.Cell}
 use Rattle.core_pages.specs.volap_cell.specs.Setting as setting
-use Rattle.call_steps.specs.volap_turns.specs.Law.{others-free}
+use Rattle.call_steps.specs.core_counts.specs.Counting.{IsCounted}
+use Rattle.call_steps.specs.volap_turns.specs.{Law.others-free, Rule.went_of}
 use Rattle.call_steps.specs.volap_turns.proofs.Known.{about, alone, is, me, setting-is}
 use Rattle.whole_steps.specs.{Seats.{HasEveryone, HasTurned}, Sole.{HasNotedAll, IsSole, player}}
 
@@ -64,6 +65,7 @@ module _ (f : Floor) (p : Player) where
             last = sole.holds.one.last;
             has = actor_is p.number ∙ sole.holds.one.has;
             same = sole.holds.one.same;
+            went = sole.holds.one.went;
             about = sole.holds.one.about;
             others = λ j x y ne has keeps. everyone.free j x y has keeps;
           };
@@ -87,24 +89,6 @@ module _ (f : Floor) (p : Player) where
     cell-at : (k : ℕ) (c : Cell) → value_of p.seat.view.held k ≡ some c → (sole.holds.possible.valid.world).cells k ≡ cell_of c
     cell-at k c e = (is sole.holds.one sole.holds.possible).cell k c (sole.holds.possible.agrees.held k c e)
 
-    -- one of them
-    pub around : IsAround f p sole.holds.possible.valid.setting sole.holds.possible.valid.world
-    around = record {
-      about = about sole.holds.one sole.holds.possible;
-      servers = ap (λ (x : Setting). x.servers) (sym same-setting) ∙ sole.servers;
-      workers = ap (λ (x : Setting). x.workers) (sym same-setting) ∙ sole.workers;
-      inv = sole.holds.possible.valid.inv;
-      pulling = sole.holds.possible.valid.pulling;
-      actor = me sole.holds.one sole.holds.possible;
-      there = (let many = sole.holds.possible.valid.many in
-          let below = below_length sole.holds.possible.actors p.number sole.holds.one.last (sole.holds.possible.agrees.own p.number sole.holds.one.last sole.holds.one.has) in omega arith);
-      cells = sym sole.holds.possible.valid.wide ∙ sym sole.holds.possible.cell_count ∙ sole.holds.wide;
-      held = cell-at;
-      free = λ k c e j ne. (others-free p.seat.view.held p.seat.view.actors sole.holds.possible.actors (sole.holds.possible.valid.world) p.number (exchange k c c ∷ []) (is sole.holds.one sole.holds.possible).actor (is sole.holds.one sole.holds.possible).no_actor
-          sole.holds.possible.agrees.own sole.holds.possible.unkept (alone sole.holds.one sole.holds.possible (exchange k c c ∷ [])) (e, tt) j ne).0;
-      seen = λ c e. ap (λ (x : CellValue). (ledger_in x).history) (cell-at ledger_cell c e) ∙ sym (sole.holds.possible.agrees.fresh c e);
-    }
-
     -- its history is the one that was seen
     pub whole-history : history_in sole.holds.possible.valid.world ≡ p.seat.view.seen
     whole-history =
@@ -114,6 +98,27 @@ module _ (f : Floor) (p : Player) where
       where
         cells-some : (n servers workers stock : ℕ) → n ≡ 3 + servers + servers + workers + stock → 0 < n
         cells-some n servers workers stock e = omega arith
+
+    -- one of them
+    pub around : IsAround f p sole.holds.possible.valid.setting sole.holds.possible.valid.world
+    around = record {
+      about = about sole.holds.one sole.holds.possible;
+      servers = ap (λ (x : Setting). x.servers) (sym same-setting) ∙ sole.servers;
+      workers = ap (λ (x : Setting). x.workers) (sym same-setting) ∙ sole.workers;
+      inv = sole.holds.possible.valid.inv;
+      pulling = sole.holds.possible.valid.pulling;
+      counted = subst (λ (n : ℕ). IsCounted sole.holds.possible.valid.setting sole.holds.possible.valid.world p.number n)
+          (ap went_of (sole.holds.possible.agrees.own p.number sole.holds.one.last sole.holds.one.has) ∙ sole.holds.one.went) (sole.holds.possible.valid.counting p.number);
+      actor = me sole.holds.one sole.holds.possible;
+      there = (let many = sole.holds.possible.valid.many in
+          let below = below_length sole.holds.possible.actors p.number sole.holds.one.last (sole.holds.possible.agrees.own p.number sole.holds.one.last sole.holds.one.has) in omega arith);
+      cells = sym sole.holds.possible.valid.wide ∙ sym sole.holds.possible.cell_count ∙ sole.holds.wide;
+      held = cell-at;
+      free = λ k c e j ne. (others-free p.seat.view.held p.seat.view.actors sole.holds.possible.actors (sole.holds.possible.valid.world) p.number (exchange k c c ∷ []) (is sole.holds.one sole.holds.possible).actor (is sole.holds.one sole.holds.possible).no_actor
+          sole.holds.possible.agrees.own sole.holds.possible.unkept (alone sole.holds.one sole.holds.possible (exchange k c c ∷ [])) (e, tt) j ne).0;
+      behind = ([], whole-history);
+      seen = λ c e. ap (λ (x : CellValue). (ledger_in x).history) (cell-at ledger_cell c e) ∙ sym (sole.holds.possible.agrees.fresh c e);
+    }
 
 -- all that the actor has begun in what was seen it has noted
 pub noted-sole : (f : Floor) (p : Player) → IsSole f p → HasNotedAll p p.seat.view.seen

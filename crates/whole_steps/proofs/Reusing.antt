@@ -153,6 +153,7 @@ module _ (f : Floor) (n : ℕ) (a : Actor) (mid : S) (what : ReuseStep) (sole : 
         went = stepped.went;
         told = stepped.told;
         seen = ap (λ (v : View Cell Actor Event). v.seen) stepped.view;
+        counted = stepped.counted;
       }
 
       shorter : (step : ReuseStep) → actor_of b ≡ after_reuse step (actor_of a) → actor_of b ≡ record (actor_of a) { gone_gates = (actor_of b).gone_gates }

@@ -12,10 +12,10 @@ use Rattle.row_ledger.specs.declared.{event.Event.Event, settings.How.How}
 use Rattle.row_ledger.specs.declared.event.Event.TheVariants.{Ended, Synced}
 use Rattle.row_ledger.specs.declared.settings.Call.TheVariants.{Settle}
 use Rattle.row_ledger.specs.declared.settings.How.TheVariants as how
-use Rattle.call_steps.specs.seat_steps.proofs.{HeldLedger.{changed, does-held, newest}, Since.{map-ok}}
+use Rattle.call_steps.specs.seat_steps.proofs.{HeldLedger.{changed, does-held, newest}, Since.{extends-on, map-ok}}
 use Rattle.call_steps.specs.seat_steps.specs.{Booked.IsDue, declared.floor.{Floor.Floor, Player.Player}}
 use Rattle.turn_table.specs.{Numbered.value_of, Seat.SeatValue}
-use Rattle.core_pages.specs.volap_cell.specs.{Commands.{due_pull, pulled_once, settles_next}, ImageKinds.{DoesSync, doing}, Setting.{Setting, ledger_cell, registry_cell}, Values.{ActorValue, actor_of}, World.World, Cells.CellValue, declared.actor.Actor.Actor, declared.cell.Cell.Cell}
+use Rattle.core_pages.specs.volap_cell.specs.{Commands.{due_pull, pulled_once, settles_next}, ImageKinds.{DoesSync, doing}, Setting.{Setting, ledger_cell, registry_cell}, Steps.history_in, Values.{ActorValue, actor_of}, World.World, Cells.CellValue, declared.actor.Actor.Actor, declared.cell.Cell.Cell}
 use Rattle.core_pages.specs.volap_cell.specs.declared.command.Work.TheVariants as work_is
 use Rattle.whole_steps.proofs.{Alone.everyone-of, Calling.{added, added-before, mid-actor}, Paging.{done-so, place-same, same-on}, Turned.turned-self}
 use Rattle.whole_steps.specs.{Commands.{HasCalledSole, HasEndedSole}, Done.{HasDone, HasEndedPage}, Seats.{HasTurned}, Settles.{HasFailedToSettle, HasPulledAll, HasPulledSole, HasSettled, IsAtSettle}, Sole.{HasMadeSole, HasWaited, IsSole, StandsSole, player}}
@@ -55,19 +55,21 @@ can-pull-on f server n a was mid turned can =
     let noted = can.noted in record { of = can.of; work = can.work; command = can.command; due = can.due; no_part = can.no_part; noted = omega (arith, longer, noted) }
 
 -- what is due where nothing is held is due when turns were taken
-pub due-turned : (f : Floor) (n : ℕ) (a : Actor) (was mid : SeatValue Cell Actor Event) (row : List (Option ℕ)) {Asks : List Dimension → List (Option CellValue) → ActorValue → Type 0} → was.view.held ≡ [] → IsDue f (player n a was) row Asks → IsDue f (player n a mid) row Asks
-due-turned f n a was mid row empty due = record {
+pub due-turned : (f : Floor) (n : ℕ) (a : Actor) (was mid : SeatValue Cell Actor Event) (row : List (Option ℕ)) {Asks : List Dimension → List (Option CellValue) → ActorValue → Type 0} → HasTurned was mid → was.view.held ≡ [] → IsDue f (player n a was) row Asks → IsDue f (player n a mid) row Asks
+due-turned f n a was mid row turned empty due = record {
   prepared = λ s w is. due.prepared s w (record {
     about = is.about;
     servers = is.servers;
     workers = is.workers;
     inv = is.inv;
     pulling = is.pulling;
+    counted = is.counted;
     actor = is.actor;
     there = is.there;
     cells = is.cells;
     held = λ k c e. absurd (none-there k c e);
     free = λ k c e j ne. absurd (none-there k c e);
+    behind = extends-on (history_in w) mid.view.seen was.view.seen is.behind turned.seen;
     seen = λ c e. absurd (none-there ledger_cell c e);
   });
 }

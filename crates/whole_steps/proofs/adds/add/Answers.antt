@@ -138,4 +138,4 @@ returns-clause-same g c =
     let row = g.S.CellStep.places c.args.what in
     let took = subst (λ (k : ℕ). TakesCell k 8 was mid) c.ledger_place.ensures c.take_turn.ensures.took in
     waited-so f n a c.step-made.new.actor was mid c.step-made.new.seat c.give_turns.new.seat (sole-mid f n a was mid row c.requires.sole c.take_turn.ensures.everyone took c.requires.held c.requires.due) took.turned (took.value, took.knows)
-    c.step-made.result c.step-made.ensures.same c.give_turns.ensures.turned c.give_turns.ensures.everyone c.give_turns.ensures.bare
+    c.step-made.result c.step-made.ensures.same c.step-made.ensures.uncounted c.give_turns.ensures.turned c.give_turns.ensures.everyone c.give_turns.ensures.bare

@@ -45,7 +45,7 @@ add-requires-clause-due g c =
     let image = image_cell c.args.server in
     subst (λ (i : ℕ). IsDueSole f (player n a c.take_listings.new.seat) (book_places (Sync i)) (book_asks (Sync i))) (sym c.image_place-image.ensures)
     (due-sole f (player n a c.take_listings.new.seat) (book_places (Sync image))
-    (due-turned f n a c.args.seat.now c.take_listings.new.seat (book_places (Sync image)) (none-held (everyone-of f (player n a c.args.seat.now) c.requires.stands.sole) c.requires.stands.bare)
+    (due-turned f n a c.args.seat.now c.take_listings.new.seat (book_places (Sync image)) c.take_listings.ensures.turned (none-held (everyone-of f (player n a c.args.seat.now) c.requires.stands.sole) c.requires.stands.bare)
     (pulls-due f (player n a c.args.seat.now) can.of can.work c.args.server can.command can.due c.tell_bytes.ensures.servers)))
 
 pub add-requires-clause-sees : goal.add-requires-clause-sees
