@@ -78,7 +78,7 @@ actor_send = declared_send actor.the_type (
             search (sendable, purse.the_send),
             (
               search (sendable, boxes.the_send),
-              (search (sendable, command.the_send) depth 20, (search (sendable, errand_send) depth 20, (search (sendable, box.the_send, job.the_send, global.the_send, heap.frees) depth 20, (search (sendable, gone.the_send), tt)))),
+              (search (sendable, command.the_send) depth 20, (search (sendable, errand_send) depth 20, (search (sendable, box.the_send, job.the_send, global.the_send, heap.frees) depth 20, (search (sendable, gone.the_send), (search sendable, tt))))),
             ),
           ),
         ),
