@@ -19,7 +19,7 @@ import time
 
 ROOT = os.path.dirname(os.path.dirname(os.path.dirname(os.path.abspath(__file__))))
 WORDS = "step", "step --seed 7", "run"
-# A run has so many seconds. One that waits for a thread that can't be made never ends.
+# A run has so many seconds. One that waits for what does not come never ends.
 PATIENCE = 10
 PHASES, ROWS = 8, 2000
 TOWNS = "berlin", "munich", "paris"

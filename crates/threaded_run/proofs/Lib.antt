@@ -7,3 +7,4 @@ pub mod Passing
 pub mod WholeCalls
 pub mod OnePhase
 pub mod Opened
+pub mod Halves

@@ -58,3 +58,11 @@ AreJobsReady f past jobs = (i : ℕ) (j : Job) → slice_get jobs i ≡ Some j �
 
 abbrev pub AreJobsBack : Floor → List Command → List Event → List Job → Type 0
 AreJobsBack f commands past jobs = (i : ℕ) (j : Job) → slice_get jobs i ≡ Some j → IsJobBack f i commands past j
+
+-- each has the number of its place behind the first
+
+abbrev pub AreJobsReadyFrom : ℕ → Floor → List Event → List Job → Type 0
+AreJobsReadyFrom first f past jobs = (i : ℕ) (j : Job) → slice_get jobs i ≡ Some j → IsJobReady f (first + i) past j
+
+abbrev pub AreJobsBackFrom : ℕ → Floor → List Command → List Event → List Job → Type 0
+AreJobsBackFrom first f commands past jobs = (i : ℕ) (j : Job) → slice_get jobs i ≡ Some j → IsJobBack f (first + i) commands past j

@@ -1,9 +1,11 @@
 //! A thread for each actor of a phase.
-ghost use Rattle.std.specs.Prelude.{ℕ, ◌≡◌, List};
+ghost use Rattle.std.specs.Prelude.{ℕ, ◌≡◌, ◌+◌, List};
+ghost use denote.Param.Send.{IsSend, IsSync};
+ghost use Rattle.std.specs.Fork.{AcceptsAt, ChangesAt};
 ghost use Rattle.hall_hands.specs.actor_run.specs.Passes.{IsPassOf};
 ghost use Rattle.row_ledger.specs.declared.event.Event.{Event};
 ghost use Rattle.script_roles.specs.Roles.{IsNumbered};
-ghost use Rattle.threaded_run.specs.Jobs.{AreJobsBack, AreJobsReady, IsJobBack, IsJobReady};
+ghost use Rattle.threaded_run.specs.Jobs.{AreJobsBack, AreJobsBackFrom, AreJobsReady, AreJobsReadyFrom, IsJobBack, IsJobReady};
 ghost use Rattle.threaded_run.specs.Streams.{AllFit, NoneClosesAt};
 
 use crate::jobs::work;
@@ -14,7 +16,7 @@ use script_roles::volap_cell::Role;
 use std::alloc::Global;
 use std::mem::{forget, replace};
 use std::sync::Wait;
-use std::thread::{Threads, for_each_mut};
+use std::thread::{Threads, for_each_mut, join_mut};
 use volap_io::Meet;
 
 /// What goes to a thread, and comes back: an actor at its seat, how many events it has seen if it is a session's, and then
@@ -74,7 +76,72 @@ fn do_job<R: Wait + Sync, M: Meet>(
     job.stopped = stopped;
 }
 
-/// Each does its job, on a thread of its own where one can be made, and else one after the other in their order.
+/// Each does its job, on a thread of its own where one can be made. They have the numbers from the first on.
+fn do_each<R: Threads + Wait + Sync, M: Meet + Sync>(
+    rt: &R,
+    alloc: Global,
+    hall: &Hall,
+    commands: &[Command],
+    meet: &M,
+    first: usize,
+    jobs: &mut [Job],
+)
+    requires ready { (past : List Event) × AreJobsReadyFrom first hall.now past jobs.old }
+    requires fits { AllFit hall.now commands.now }
+    requires none_closes { NoneClosesAt commands.now }
+    ensures back { (past : List Event) → AreJobsReadyFrom first hall.now past jobs.old → AreJobsBackFrom first hall.now commands.now past jobs.new }
+{
+    let many = jobs.len();
+    if many == 0 {
+        return;
+    }
+    let one = |i: usize, job: &mut Job|
+        requires { ((past : List Event) × IsJobReady hall.now (first + i) past job.now) × AllFit hall.now commands.now × NoneClosesAt commands.now }
+        ensures { (past : List Event) → IsJobReady hall.entry.now (first + i) past job.entry.now → IsJobBack hall.entry.now (first + i) commands.entry.now past job.exit.now }
+    {
+        let _ = &first;
+        let _ = i;
+        do_job(rt, alloc, hall, commands, meet, job);
+    };
+    for_each_mut(rt, jobs, many, &one);
+}
+
+/// The work at one part, that begins at this place.
+fn at_part<T, F: Fn(usize, &mut [T])>(work: &F, start: usize, part: &mut [T])
+    requires { AcceptsAt F.Fn work.now start part.old }
+    ensures { ChangesAt F.Fn work.now start part.old part.new }
+{
+    work(start, part);
+}
+
+/// The work at the first places, and beside it at all from a place on. Where no thread can be made, `join_mut` does its first
+/// call last.
+fn last_beside<R: Threads + Sync, T: Send, F: Fn(usize, &mut [T]) + Sync>(
+    rt: &R,
+    work: &F,
+    before: usize,
+    others: &mut [T],
+    hands: &mut [T],
+)
+    requires others { AcceptsAt F.Fn work.now 0 others.old }
+    requires hands { AcceptsAt F.Fn work.now before hands.old }
+    ensures others { ChangesAt F.Fn work.now 0 others.old others.new }
+    ensures hands { ChangesAt F.Fn work.now before hands.old hands.new }
+{
+    let mut last = ||
+        requires { IsSync F.row × IsSend T.row × AcceptsAt F.Fn work.now before hands.now }
+        ensures { ChangesAt F.Fn work.entry.now before hands.entry.now hands.exit.now }
+    { at_part(work, before, hands) };
+    let mut first = ||
+        requires { IsSync F.row × IsSend T.row × AcceptsAt F.Fn work.now 0 others.now }
+        ensures { ChangesAt F.Fn work.entry.now 0 others.entry.now others.exit.now }
+    { at_part(work, 0, others) };
+    join_mut(rt, &mut last, &mut first);
+}
+
+/// Each does its job, on a thread of its own where one can be made. A hand waits for the sessions to end, so the hands stand in
+/// the first closure of `join_mut`: where there is no thread for them, they come behind all others. The others wait for none
+/// that has not begun, so these may come in any order.
 pub(crate) fn do_all_jobs<R: Threads + Wait + Sync, M: Meet + Sync>(
     rt: &R,
     alloc: Global,
@@ -88,16 +155,15 @@ pub(crate) fn do_all_jobs<R: Threads + Wait + Sync, M: Meet + Sync>(
     requires none_closes { NoneClosesAt commands.now }
     ensures back { (past : List Event) → AreJobsReady hall.now past jobs.old → AreJobsBack hall.now commands.now past jobs.new }
 {
-    let many = jobs.len();
-    if many == 0 {
-        return;
-    }
-    let one = |i: usize, job: &mut Job|
-        requires { ((past : List Event) × IsJobReady hall.now i past job.now) × AllFit hall.now commands.now × NoneClosesAt commands.now }
-        ensures { (past : List Event) → IsJobReady hall.entry.now i past job.entry.now → IsJobBack hall.entry.now i commands.entry.now past job.exit.now }
+    // The sessions, the puller and the administrator stand before the hands.
+    let others_count = usize::from(hall.floor().with.servers) + 2;
+    let before = others_count.min(jobs.len());
+    let (others, hands) = jobs.split_at_mut(before);
+    let part = |start: usize, part: &mut [Job]|
+        requires { ((past : List Event) × AreJobsReadyFrom start hall.now past part.now) × AllFit hall.now commands.now × NoneClosesAt commands.now }
+        ensures { (past : List Event) → AreJobsReadyFrom start hall.entry.now past part.entry.now → AreJobsBackFrom start hall.entry.now commands.entry.now past part.exit.now }
     {
-        let _ = i;
-        do_job(rt, alloc, hall, commands, meet, job);
+        do_each(rt, alloc, hall, commands, meet, start, part);
     };
-    for_each_mut(rt, jobs, many, &one);
+    last_beside(rt, &part, before, others, hands);
 }
