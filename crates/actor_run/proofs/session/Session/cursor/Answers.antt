@@ -1,8 +1,8 @@
 use Rattle.std.proofs.Common.{◌∙◌, ℕ, length, sym, ap, subst}
-use Rattle.actor_run.specs.{Doing.Does, Sessions.{DoesQuery, EndsQuery, IsSession, SessionValue, session_of}}
+use Rattle.actor_run.specs.{Cursors.IsCursor, Doing.Does, Sessions.{DoesQuery, EndsQuery, IsSession, SessionValue, session_of}}
 use Rattle.actor_run.proofs.CursorOpen.{cursor-kept-for}
 use Rattle.whole_steps.specs.session_steps.proofs.Servers.{server-below}
-use Rattle.whole_steps.specs.seat_steps.specs.declared.floor.Floor.{Floor}
+use Rattle.whole_steps.specs.seat_steps.specs.declared.floor.{Floor.Floor, Player.Player}
 use Rattle.actor_run.proofs.session.Session.cursor.Goals as goal
 
 pub bell-bell-requires : goal.bell-bell-requires
@@ -24,6 +24,19 @@ invariant_of-session g c =
     let i = c.self.inside in
     let does = subst (λ (f : Floor). Does f (EndsQuery c.in-Err.answer c.args.filter.now) i.player c.begin.new.player) c.hall.view_is c.in-Err.ensures.refused in
     record { session = (does i.server c.self.invariant.session).session; count = c.in-Err.ensures.seen }
+
+pub invariant_of-result : goal.invariant_of-result
+invariant_of-result g c =
+    let i = c.self.inside in
+    let begun = c.in-Ok.ensures.begun in
+    let made : IsCursor c.hall.inside.floor i.server i.player c.in-Ok.of c.in-Ok.filter.value c.begin.new.player = record {
+      session = subst (λ (f : Floor). IsSession f i.server i.player) (sym c.hall.view_is) c.self.invariant.session;
+      valid = begun.named.valid;
+      start = begun.start;
+      asked = begun.asked;
+      since = begun.since;
+    } in
+    subst (λ (x : Floor × Player). IsCursor x.0 i.server x.1 c.in-Ok.of c.in-Ok.filter.value c.begin.new.player) (λ k. (c.hall.view_is k, sym c.of-was.ensures k)) made
 
 pub returns-in-Ok-clause-asked : goal.returns-in-Ok-clause-asked
 returns-in-Ok-clause-asked g c =
