@@ -18,8 +18,9 @@ use std::sync::atomic::{AtomicU64, Ordering};
 /// The low half of a word is below this; a thread parks on that half.
 const HALF: u64 = 1 << 32;
 
-/// How often a thread looks at a held cell before it parks. A turn is short, and a sleep costs more than these looks.
-const LOOKS: u32 = 100;
+/// How often a thread looks at a held cell before it parks. A look takes some five cycles, so these take about as long as falling
+/// asleep and being woken: a turn is mostly shorter.
+const LOOKS: u32 = 2000;
 
 /// Nobody waits for any cell.
 pub(crate) fn nobody(alloc: Global, count: usize) -> Result<Vec<AtomicU64>, AllocError>
