@@ -1,5 +1,5 @@
 //! Waiting for a server's desk, or for parts, asleep.
-ghost use Rattle.std.specs.Prelude.{◌≡◌, IfOk, vec_len};
+ghost use Rattle.std.specs.Prelude.{◌≡◌, ◌<◌, IfOk, vec_len};
 
 use std::alloc::{AllocError, Global};
 use std::sync::atomic::{AtomicU64, Ordering};
@@ -26,13 +26,6 @@ pub(crate) fn bells(alloc: Global, count: u8) -> Result<Vec<Bell>, AllocError>
         bells.push(Bell::new())?;
     }
     Ok(bells)
-}
-
-/// Rings all these bells.
-pub(crate) fn wake<R: Wait>(rt: &R, bells: &[Bell]) {
-    for bell in bells {
-        bell.ring(rt);
-    }
 }
 
 impl Bell {
@@ -67,5 +60,56 @@ impl Bell {
             .wait_while(rt, self.lock.lock(rt), |_| self.rings() == rings);
         drop(woken);
         self.waiting.fetch_sub(1, Ordering::SeqCst);
+    }
+}
+
+/// The bells of the hands of all workers, and how many queries are under way.
+// A ring for a query may be left out. Whoever asks does all parts that are left itself, so a part that no hand comes for is done
+// later, and never left. Where the last session has gone all are rung, as a hand that sleeps would not see it.
+#[derive(Drop)]
+pub(crate) struct HandBells {
+    /// One for each worker.
+    pub(crate) bells: Vec<Bell>,
+    queries: AtomicU64,
+}
+
+impl HandBells {
+    /// A bell for each of so many workers. No query is under way.
+    pub(crate) fn new(alloc: Global, workers: u8) -> Result<HandBells, AllocError>
+        ensures { IfOk result (λ h. vec_len h.bells ≡ workers) }
+    {
+        Ok(HandBells {
+            bells: bells(alloc, workers)?,
+            queries: AtomicU64::new(0),
+        })
+    }
+
+    /// The bell of this worker's hands.
+    pub(crate) fn of(&self, worker: u8) -> &Bell
+        requires { worker < vec_len self.now.bells }
+    {
+        &self.bells[usize::from(worker)]
+    }
+
+    /// Rings all.
+    pub(crate) fn ring_all<R: Wait>(&self, rt: &R) {
+        for bell in &self.bells {
+            bell.ring(rt);
+        }
+    }
+
+    /// One more query is under way, whose parts stand on a desk. All are rung, but where others are under way and with this one there
+    /// are as many as workers, or more: then each session does its own parts, which takes less time than to wake hands.
+    pub(crate) fn ask<R: Wait>(&self, rt: &R) {
+        let others = self.queries.fetch_add(1, Ordering::SeqCst);
+        let workers = self.bells.len() as u64;
+        if others == 0 || others.saturating_add(1) < workers {
+            self.ring_all(rt);
+        }
+    }
+
+    /// One query less is under way.
+    pub(crate) fn answered(&self) {
+        self.queries.fetch_sub(1, Ordering::SeqCst);
     }
 }

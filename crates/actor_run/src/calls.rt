@@ -13,7 +13,7 @@ ghost use Rattle.whole_steps.specs.seat_steps.specs.Booked.{IsAsBefore};
 ghost use Rattle.whole_steps.specs.session_steps.specs.Begins.{CanBegin, HasAsked};
 ghost use Rattle.whole_steps.specs.seat_steps.specs.Floors.{Stands};
 
-use crate::bell::{Bell, wake};
+use crate::bell::{Bell, HandBells};
 use crate::driving::drive;
 use crate::session::{Asked, Inserted, Synced};
 use dim_hierarchy::{Coord, Filter, FilterFault, Measures, NameFilter, RowNames};
@@ -96,7 +96,7 @@ pub(crate) fn query<R: Wait + Sync, M: Meet>(
     alloc: Global,
     floor: &Floor,
     bell: &Bell,
-    hands: &[Bell],
+    hands: &HandBells,
     player: &mut Player,
     seen: &mut u64,
     filter: &NameFilter,
@@ -126,7 +126,7 @@ fn query_with<R: Wait + Sync, M: Meet>(
     alloc: Global,
     floor: &Floor,
     bell: &Bell,
-    hands: &[Bell],
+    hands: &HandBells,
     player: &mut Player,
     seen: &mut u64,
     filter: Filter,
@@ -141,11 +141,13 @@ fn query_with<R: Wait + Sync, M: Meet>(
     ensures kept { steps.old ≤ steps.new }
     ensures steps { IsOfAll floor.now.hierarchy filter → IsFew floor.now player.new.seat.view.seen steps.old steps.new }
 {
-    let Some(of) = ask(rt, alloc, floor, bell, hands, player, filter) else {
+    let Some(of) = ask(rt, alloc, floor, bell, player, filter) else {
         refuse(rt, alloc, floor, player, seen)?;
         return Ok(Asked::NoMemory);
     };
+    hands.ask(rt);
     let end = drive(rt, alloc, floor, bell, player, meet, steps);
+    hands.answered();
     *seen = player.actor.seen;
     match end {
         End::Acked => unreachable!(),
@@ -223,7 +225,6 @@ pub(crate) fn ask<R: Wait>(
     alloc: Global,
     floor: &Floor,
     bell: &Bell,
-    hands: &[Bell],
     player: &mut Player,
     filter: Filter,
 ) -> Option<u64>
@@ -238,10 +239,7 @@ pub(crate) fn ask<R: Wait>(
     for _ in rt.forever() {
         let rings = bell.rings();
         match begin_query(rt, alloc, floor, player, asked) {
-            Begun::At(of) => {
-                wake(rt, hands);
-                return Some(of);
-            }
+            Begun::At(of) => return Some(of),
             Begun::Waits(back) => asked = back,
             Begun::NoMemory => return None,
         }

@@ -13,7 +13,7 @@ ghost use Rattle.whole_steps.specs.volap_cell.specs.ImageKinds.{doing};
 ghost use Rattle.whole_steps.specs.volap_cell.specs.Values.{actor_of};
 ghost use Rattle.whole_steps.specs.volap_cell.specs.declared.command.Work.TheVariants.{Query};
 
-use crate::bell::Bell;
+use crate::bell::{Bell, HandBells};
 use crate::calls::{ask, filter_for, refuse};
 use crate::session::Asked;
 use dim_hierarchy::{Filter, NameFilter};
@@ -33,7 +33,7 @@ pub(crate) fn begin<R: Wait>(
     alloc: Global,
     floor: &Floor,
     bell: &Bell,
-    hands: &[Bell],
+    hands: &HandBells,
     player: &mut Player,
     seen: &mut u64,
     names: &NameFilter,
@@ -60,7 +60,7 @@ fn begin_with<R: Wait>(
     alloc: Global,
     floor: &Floor,
     bell: &Bell,
-    hands: &[Bell],
+    hands: &HandBells,
     player: &mut Player,
     seen: &mut u64,
     filter: Filter,
@@ -74,10 +74,12 @@ fn begin_with<R: Wait>(
     ensures seen { OnErr result (seen.new ≡ length player.new.seat.view.seen) }
 {
     let copy = Snapshot::of(&filter);
-    let Some(of) = ask(rt, alloc, floor, bell, hands, player, filter) else {
+    let Some(of) = ask(rt, alloc, floor, bell, player, filter) else {
         let _ = refuse(rt, alloc, floor, player, seen);
         return Err(Asked::NoMemory);
     };
+    // Not counted as under way, as between its caller's calls it does no part.
+    hands.ring_all(rt);
     go_to_gate(rt, alloc, floor, player);
     Ok((of, copy))
 }

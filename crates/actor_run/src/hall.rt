@@ -6,7 +6,7 @@ ghost use Rattle.actor_run.specs.Opened.{IsOpenedTable};
 ghost use Rattle.actor_run.specs.Passes.{AreAllIn, IsPassesOf};
 ghost use Rattle.whole_steps.specs.volap_turns.specs.Rule.{all_there};
 
-use crate::bell::{Bell, bells};
+use crate::bell::{Bell, HandBells, bells};
 use crate::passes::Passes;
 use dim_hierarchy::Hierarchy;
 use row_ledger::Use;
@@ -23,8 +23,7 @@ pub struct Hall {
     pub(crate) floor: Floor,
     /// One for each server's desk.
     pub(crate) bells: Vec<Bell>,
-    /// One for the hands of each worker.
-    pub(crate) hands: Vec<Bell>,
+    pub(crate) hands: HandBells,
     pub(crate) alloc: Global,
 }
 
@@ -40,7 +39,7 @@ impl Model for Hall {
 
     ghost view = { λ h. h.floor };
 
-    ghost invariant = { λ h. (0 < length h.floor.hierarchy) × (vec_len h.bells ≡ h.floor.with.servers) × (vec_len h.hands ≡ h.floor.with.workers) };
+    ghost invariant = { λ h. (0 < length h.floor.hierarchy) × (vec_len h.bells ≡ h.floor.with.servers) × (vec_len h.hands.bells ≡ h.floor.with.workers) };
 }
 
 impl Hall {
@@ -61,7 +60,7 @@ impl Hall {
         };
         let actors = places(alloc, actors)?;
         let desks = bells(alloc, with.servers)?;
-        let hands = bells(alloc, with.workers)?;
+        let hands = HandBells::new(alloc, with.workers)?;
         let floor = Floor {
             hierarchy,
             with,
@@ -89,16 +88,11 @@ impl Hall {
         &self.bells[usize::from(server)]
     }
 
-    /// The bell of a worker's hands, which is rung where a part may wait for them, or the last session has gone.
+    /// The bell of a worker's hands, which is rung where a part may wait that they should do, or the last session has gone.
     pub fn hand_bell(&self, worker: u8) -> &Bell
         requires { worker < self.now.with.workers }
     {
-        &self.hands[usize::from(worker)]
-    }
-
-    /// The bells of all hands.
-    pub(crate) fn hand_bells(&self) -> &[Bell] {
-        self.hands.as_slice()
+        self.hands.of(worker)
     }
 
     /// What all seats of the hall share.

@@ -6,7 +6,6 @@ ghost use Rattle.actor_run.specs.Passes.{IsPassOf};
 ghost use Rattle.actor_run.specs.Sessions.{BecomesPass, DoesInsert, DoesQuery, DoesSync, DoesTryInsert, DoesTryQuery, IsPassFor, IsSessionRole, IsSessionWith, session_of};
 ghost use Rattle.dim_hierarchy.specs.Names.{IsNamePick};
 
-use crate::bell::wake;
 use crate::calls::{insert, query, sync};
 use crate::cursor::Cursor;
 use crate::gates::begin;
@@ -186,7 +185,7 @@ impl<'a> Session<'a> {
             alloc,
             &hall.floor,
             hall.bell(self.server),
-            hall.hand_bells(),
+            &hall.hands,
             &mut self.player,
             &mut self.seen,
             filter,
@@ -233,13 +232,12 @@ impl<'a> Session<'a> {
         } = self;
         let was = Snapshot::of(&player);
         let bell = hall.bell(server);
-        let hands = hall.hand_bells();
         match begin(
             rt,
             alloc,
             &hall.floor,
             bell,
-            hands,
+            &hall.hands,
             &mut player,
             &mut seen,
             filter,
@@ -311,7 +309,7 @@ impl<'a> Session<'a> {
         } = self;
         empty_purse(rt, hall.alloc, &hall.floor, &mut player);
         leave(rt, hall.alloc, &hall.floor, &mut player);
-        wake(rt, hall.hand_bells());
+        hall.hands.ring_all(rt);
         Pass { player }
     }
 }
