@@ -73,8 +73,8 @@ fn serve<R: Wait + Sync>(rt: &R, alloc: Global, hall: &Hall, pass: Pass, meet: &
     hand.end()
 }
 
-/// The session asks on another thread, while the hand serves. Where no thread can be made the session goes first, waits in vain
-/// and ends, and then the hand finds nobody.
+/// The session asks on another thread, while the hand serves. It wants a thread: where none can be made, `join` does its first call
+/// last, and the hand would wait for the session.
 fn ask_beside<R: Threads + Wait + Sync>(
     rt: &R,
     alloc: Global,
