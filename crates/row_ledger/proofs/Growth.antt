@@ -4,7 +4,7 @@ use Rattle.dim_hierarchy.specs.{declared.filter.Pick.Pick, declared.row.Row.Row}
 use Rattle.measure_agg.specs.Aggregate.{Aggregate}
 use Rattle.describing_set.specs.declared.listing.Spot.{Spot}
 use Rattle.shard_plan.specs.declared.action.Action.TheVariants as action
-use Rattle.row_ledger.specs.{Kept.KeepsRight, Listings.IsFirstListing, Past.{failed, is_kept}, Right.{Site, EachEvent, IsFirstPull, Opens, IsRightAck, IsRightAnswer, IsRightFailure, IsLaterPull, IsRightAction, IsRightSplit, IsRightLeft, IsRightPage, IsRightEnd, Stands, StandsRight, IsRight}, declared.event.Event.Event, declared.event.Event.TheVariants.{Synced, Begun, Acked, Asked, Answered, Unknown, Failed, Refused, Called, Split, Moved, Left, Shown, Ended}, declared.page.Page.Page, declared.settings.Call.Call, declared.settings.How.How}
+use Rattle.row_ledger.specs.{Groups.IsCallOf, Kept.KeepsRight, Listings.IsFirstListing, Past.{failed, is_kept}, Right.{Site, EachEvent, IsFirstPull, Opens, IsRightAck, IsRightAnswer, IsRightFailure, IsLaterPull, IsRightAction, IsRightSplit, IsRightLeft, IsRightPage, IsRightEnd, Stands, StandsRight, IsRight}, declared.event.Event.Event, declared.event.Event.TheVariants.{Synced, Begun, Acked, Asked, Answered, Unknown, Failed, Refused, Called, Split, Moved, Left, Shown, Ended}, declared.page.Page.Page, declared.settings.Call.Call, declared.settings.How.How}
 pub use Rattle.row_ledger.specs.Kept.{IsOpeningHistory}
 use Rattle.row_ledger.proofs.Within.{Within, StandsRight-within}
 
@@ -86,9 +86,9 @@ pub KeepsRight-refused : (site : Site) (placed : ℕ → Bool) (h : List Event) 
     → KeepsRight site placed h → KeepsRight site placed (Refused session ∷ h)
 KeepsRight-refused site placed h session keeps = KeepsRight-grown site placed h (Refused session) keeps tt refl
 
-pub KeepsRight-called : (site : Site) (placed : ℕ → Bool) (h : List Event) (session : ℕ) (call : Call)
+pub KeepsRight-called : (site : Site) (placed : ℕ → Bool) (h : List Event) (session : ℕ) (call : Call) → IsCallOf site.hierarchy call
     → KeepsRight site placed h → KeepsRight site placed (Called session call ∷ h)
-KeepsRight-called site placed h session call keeps = KeepsRight-grown site placed h (Called session call) keeps tt refl
+KeepsRight-called site placed h session call valid keeps = KeepsRight-grown site placed h (Called session call) keeps valid refl
 
 pub KeepsRight-split : (site : Site) (placed : ℕ → Bool) (h : List Event) (of shard left right : ℕ)
     → KeepsRight site placed h → IsRightSplit site h of shard left right → KeepsRight site placed (Split of shard left right ∷ h)

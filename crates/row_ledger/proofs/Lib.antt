@@ -15,3 +15,4 @@ pub mod Descent
 pub mod PulledRight
 pub mod SplitRight
 pub mod Ascent
+pub mod Grouping

@@ -1,7 +1,7 @@
 -- Positions of a history, the newest event first.
-use Rattle.std.proofs.{Common.{◌≡◌, ◌∙◌, ℕ, ◌≤◌, ◌<◌, List, [], ◌∷◌, ◌++◌, length, reverse, refl, ap, arith}, lemmas.Bool.Decides.nat_tests, lemmas.Grind.common_steps, lemmas.List.{reverse-append, reverse-reverse}, lemmas.Option.gets}
+use Rattle.std.proofs.{Common.{◌≡◌, ◌∙◌, ℕ, ◌≤◌, ◌<◌, ◌-◌, List, [], ◌∷◌, ◌++◌, length, reverse, refl, sym, ap, subst, arith}, lemmas.Bool.Decides.nat_tests, lemmas.Grind.common_steps, lemmas.List.{length-reverse, reverse-append, reverse-reverse}, lemmas.Option.gets}
 use Rattle.std.specs.Prelude.{Some, None, slice_get}
-use Rattle.row_ledger.specs.{Past.{event_at, before, since}, declared.event.Event.Event}
+use Rattle.row_ledger.specs.{Past.{event_at, before, newest, since}, declared.event.Event.Event}
 
 -- the newest event stands at the length of its past
 pub event_at-here : (e : Event) (past : List Event) → event_at (e ∷ past) (length past) ≡ Some e
@@ -27,6 +27,17 @@ event_at-reverse (e ∷ past) p = rw (reverse-append (e ∷ []) past) (event_at-
 -- positions count from the oldest event
 pub event_at_reversed : (events : List Event) (p : ℕ) → event_at (reverse events) p ≡ slice_get events p
 event_at_reversed events p = event_at-reverse (reverse events) p ∙ ap (λ l. slice_get l p) (reverse-reverse events)
+
+-- the newest event stands last in the order of time
+
+newest-at : (h : List Event) → newest h ≡ event_at h (length h - 1)
+newest-at [] = refl
+newest-at (e ∷ past) =
+    let n : length (e ∷ past) - 1 ≡ length past = omega arith in
+    sym (subst (λ (p : ℕ). event_at (e ∷ past) p ≡ Some e) (sym n) (event_at-here e past))
+
+pub newest_reversed : (events : List Event) → slice_get events (length events - 1) ≡ newest (reverse events)
+newest_reversed events = sym (event_at_reversed events (length events - 1)) ∙ ap (λ (n : ℕ). event_at (reverse events) (n - 1)) (sym (length-reverse events)) ∙ sym (newest-at (reverse events))
 
 -- what stands before a position stays
 pub before-older : (e : Event) (past : List Event) (p : ℕ) → p ≤ length past → before (e ∷ past) p ≡ before past p

@@ -42,7 +42,7 @@ lists_first = record {
 
 pub pulled_right : KeepsRight site all (pulled with_berlin)
 pulled_right =
-    let called = KeepsRight-called site all inserted 2 (Sync 0) inserted_right in
+    let called = KeepsRight-called site all inserted 2 (Sync 0) tt inserted_right in
     let synced = KeepsRight-synced site all first_sync 0 with_berlin called
     (record { of = 4; call = Sync 0; called = refl; is_open = refl; pulls = refl; lists = lists_first }) in
     KeepsRight-ended site all (Synced 0 with_berlin ∷ first_sync) 4 Fine synced
@@ -60,7 +60,7 @@ lists_second = record {
 
 pub told_right : KeepsRight site all told
 told_right =
-    let called = KeepsRight-called site all (pulled with_berlin) 2 (Sync 1) pulled_right in
+    let called = KeepsRight-called site all (pulled with_berlin) 2 (Sync 1) tt pulled_right in
     let synced = KeepsRight-synced site all second_sync 1 with_berlin called
     (record { of = 7; call = Sync 1; called = refl; is_open = refl; pulls = refl; lists = lists_second }) in
     KeepsRight-ended site all (Synced 1 with_berlin ∷ second_sync) 7 Fine synced

@@ -12,7 +12,7 @@ two_cities_answer : CanAnswer all two_cities (other ∷ row ∷ [])
 two_cities_answer = CanAnswer-insert site all inserted (row ∷ []) 0 0 other (0 ∷ []) inserted_right inserted_answer refl refl
 
 pub to_split_right : KeepsRight site all to_split
-to_split_right = KeepsRight-called site all _ 3 (Split 0) (KeepsRight-asked site all two_cities 0 0 for_berlin two_cities_right)
+to_split_right = KeepsRight-called site all _ 3 (Split 0) tt (KeepsRight-asked site all two_cities 0 0 for_berlin two_cities_right)
 
 pub to_split_answer : CanAnswer all to_split (other ∷ row ∷ [])
 to_split_answer = CanAnswer-older all (Called 3 (Split 0)) _ _ (CanAnswer-older all (Asked 0 0 for_berlin) two_cities _ two_cities_answer refl) refl

@@ -6,6 +6,7 @@ pub mod Classes
 pub mod Workers
 pub mod Bounds
 pub mod Listings
+pub mod Groups
 pub mod Pages
 pub mod Work
 pub mod Right

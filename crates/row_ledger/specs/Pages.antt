@@ -1,9 +1,9 @@
--- What pages tell: of the tree of a shard, of the shards that stand, and of all rows.
+-- What pages tell: of the tree of a shard, of the shards that stand, of all rows, and of the rows by concept.
 use Rattle.std.specs.{List.{IsDistinct, AllZip, flat_map}, Prelude.{ℕ, ◌≡◌, ◌+◌, ◌*◌, ◌<◌, ◌≤◌, true, false, ⊤, List, [], ◌∷◌, ◌++◌, length, map, All, Contains, IsPermutation, nat_eq}}
 use Rattle.dim_hierarchy.specs.{Dimension.Dimension, declared.row.Row.Row}
 use Rattle.measure_agg.specs.Aggregate.{agg}
 use Rattle.describing_set.specs.DescSet.{IsSetOf}
-use Rattle.row_ledger.specs.{Bounds.numbers, Past.{Ack, acked, acked_rows, acked_into}, Shards.{Place, place, frontier}, Site.Site, declared.event.Event.Event, declared.page.AuditLine.AuditLine, declared.page.NodeLine.NodeLine, declared.page.Page.Page, declared.page.ShardLine.ShardLine, declared.page.TreePage.TreePage}
+use Rattle.row_ledger.specs.{Bounds.numbers, Groups.{IsGroupPage, question}, Past.{Ack, acked, acked_rows, acked_into}, Shards.{Place, place, frontier}, Site.Site, declared.event.Event.Event, declared.page.AuditLine.AuditLine, declared.page.GroupPage.GroupPage, declared.page.NodeLine.NodeLine, declared.page.Page.Page, declared.page.ShardLine.ShardLine, declared.page.TreePage.TreePage, declared.settings.Call.Call, declared.settings.Call.TheVariants.Group}
 use Rattle.row_ledger.specs.declared.page.Page.TheVariants as page
 
 -- Trees.
@@ -117,8 +117,14 @@ pub record IsShownAudit (site : Site) (past : List Event) (audit : AuditLine) : 
   pub total : audit.agg ≡ agg (acked_rows past)
   pub count : audit.shards ≡ length (frontier site.workers past)
 
--- what a page tells is so behind this past
-abbrev pub IsShown : Site → List Event → Page → Type 0
-IsShown site past (page.Shards lines) = AreShownShards site past lines
-IsShown site past (page.Tree tree) = IsShownTree site.hierarchy past tree
-IsShown site past (page.Audit audit) = IsShownAudit site past audit
+-- what a group may show: the page of the acknowledged rows
+abbrev pub IsShownGroup : Site → List Event → Call → GroupPage → Type 0
+IsShownGroup site past (Group dim level filter) shown = IsGroupPage (question site.hierarchy filter dim level) (acked_rows past) shown
+IsShownGroup site past other shown = ⊥
+
+-- what a page of a call tells is so behind this past
+abbrev pub IsShown : Site → List Event → Call → Page → Type 0
+IsShown site past call (page.Shards lines) = AreShownShards site past lines
+IsShown site past call (page.Tree tree) = IsShownTree site.hierarchy past tree
+IsShown site past call (page.Audit audit) = IsShownAudit site past audit
+IsShown site past call (page.Group group) = IsShownGroup site past call group

@@ -13,6 +13,11 @@ abbrev pub event_at : List Event → ℕ → Option Event
 event_at [] p = None
 event_at (e ∷ past) p = if p == length past then Some e else event_at past p
 
+-- the newest event
+abbrev pub newest : List Event → Option Event
+newest [] = None
+newest (e ∷ past) = Some e
+
 -- the events before a position
 abbrev pub before : List Event → ℕ → List Event
 before [] p = []

@@ -4,7 +4,7 @@ use Rattle.measure_agg.specs.Aggregate.{Aggregate}
 use Rattle.describing_set.specs.declared.listing.Spot.{Spot}
 use Rattle.shard_plan.specs.declared.action.Action.{Action}
 use Rattle.shard_plan.specs.declared.action.Action.TheVariants as action
-use Rattle.row_ledger.specs.{Bounds.{must, may, IsAllowed}, Classes.{class_of, is_there}, Listings.{IsFirstListing, IsListing}, Past.{Insert, Query, before, since, insert_at, query_at, call_at, has_ended, is_idle, has_page, is_kept, is_pull_of, work}, Shards.{is_live, ids_made, is_path}, Work.{shard_of, MayEndAction, IsRightBalance}, declared.class.Class.Class, declared.event.Event.Event, declared.page.Page.Page, declared.settings.Call.Call, declared.settings.How.How, declared.settings.How.TheVariants.{Fine, Balanced, Declined, Postponed, NoMemory}}
+use Rattle.row_ledger.specs.{Bounds.{must, may, IsAllowed}, Classes.{class_of, is_there}, Groups.IsCallOf, Listings.{IsFirstListing, IsListing}, Past.{Insert, Query, before, since, insert_at, query_at, call_at, has_ended, is_idle, has_page, is_kept, is_pull_of, work}, Shards.{is_live, ids_made, is_path}, Work.{shard_of, MayEndAction, IsRightBalance}, declared.class.Class.Class, declared.event.Event.Event, declared.page.Page.Page, declared.settings.Call.Call, declared.settings.How.How, declared.settings.How.TheVariants.{Fine, Balanced, Declined, Postponed, NoMemory}}
 use Rattle.row_ledger.specs.declared.class.Class.TheVariants as class
 use Rattle.row_ledger.specs.declared.class.Subject.TheVariants as subject
 use Rattle.row_ledger.specs.declared.event.Event.TheVariants as event
@@ -112,6 +112,7 @@ abbrev pub Asks : Class → Page → Type 0
 Asks (class.Page subject.Shards) (page.Shards lines) = ⊤
 Asks (class.Page (subject.Tree shard)) (page.Tree shown) = shown.shard ≡ shard
 Asks (class.Page subject.Rows) (page.Audit audit) = ⊤
+Asks (class.Page subject.Groups) (page.Group group) = ⊤
 Asks other shown = ⊥
 
 -- A page is such as a called command asks for that hasn't ended, the first one for it, and what it tells was so when the
@@ -124,7 +125,7 @@ pub record IsRightPage (site : Site) (past : List Event) (of : ℕ) (page : Page
   pub asked : Asks (class_of call) page
   pub next : length past ≡ of + 1
   pub alone : IsTrue (is_idle (before past of))
-  pub shown : IsShown site (before past of) page
+  pub shown : IsShown site (before past of) call page
 
 -- Ends.
 
@@ -178,7 +179,7 @@ Stands site usable past (event.Shown of page) = IsRightPage site past of page
 Stands site usable past (event.Ended of how) = IsRightEnd site usable past of how
 Stands site usable past (event.Unknown session server dim) = ⊤
 Stands site usable past (event.Refused session) = ⊤
-Stands site usable past (event.Called session call) = ⊤
+Stands site usable past (event.Called session call) = IsCallOf site.hierarchy call
 
 -- the first events open the history, each event stands rightly, and only usable rows are in answers, boxes and counts
 pub record StandsRight (site : Site) (usable : ℕ → Bool) (h : List Event) : Type 0 where

@@ -14,6 +14,8 @@ pub enum Subject {
     Tree(u32),
     /// All rows.
     Rows,
+    /// The rows that a filter matches, by the concept of a level that they are under.
+    Groups,
 }
 
 /// What a called command is.
@@ -51,6 +53,7 @@ impl Call {
             Call::Shards => Class::Page(Subject::Shards),
             Call::Tree(shard) => Class::Page(Subject::Tree(*shard)),
             Call::Audit => Class::Page(Subject::Rows),
+            Call::Group { .. } => Class::Page(Subject::Groups),
         }
     }
 }

@@ -1,5 +1,5 @@
 //! The history that a run keeps, with pushes that were promised.
-ghost use Rattle.std.specs.Prelude.{◌≡◌, ◌+◌, ◌<◌, ◌≤◌, ◌^◌, [], ◌∷◌, OnOk, OnErr, length, reverse};
+ghost use Rattle.std.specs.Prelude.{◌≡◌, ◌+◌, ◌<◌, ◌≤◌, ◌^◌, [], ◌∷◌, OnOk, OnErr, length, option_copied, reverse};
 
 use crate::event::Event;
 use crate::history::History;
@@ -29,6 +29,8 @@ impl Model for Ledger {
 }
 
 impl Ledger {
+    ghost use Rattle.row_ledger.specs.Past.{newest};
+
     /// The empty history with no promise. Takes no memory.
     pub fn new(alloc: Global) -> Ledger
         ensures history { result.history ≡ [] }
@@ -48,11 +50,23 @@ impl Ledger {
         self.events.len() as u64
     }
 
+    /// Where its memory comes from.
+    pub fn allocator(&self) -> Global {
+        *self.events.allocator()
+    }
+
     /// The events, the oldest first.
     pub fn events(&self) -> &[Event]
         ensures { reverse result.now ≡ self.now.history }
     {
         &self.events
+    }
+
+    /// The newest event.
+    pub fn newest(&self) -> Option<&Event>
+        ensures { option_copied result ≡ newest self.now.history }
+    {
+        self.events.last()
     }
 
     /// The history, with which the ledger ends. Takes no memory.

@@ -30,5 +30,8 @@ pub use class::{Class, Subject};
 pub use event::Event;
 pub use history::History;
 pub use ledger::Ledger;
-pub use page::{AuditLine, NodeLine, NodeList, Page, ShardLine, ShardList, TreePage};
+pub use page::{
+    AuditLine, GroupLine, GroupLines, GroupPage, NodeLine, NodeList, Page, ShardLine, ShardList,
+    TreePage,
+};
 pub use settings::{Call, Decline, How, Use};

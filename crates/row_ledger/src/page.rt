@@ -1,6 +1,6 @@
 //! Pages: what a command shows.
 use describing_set::DescSet;
-use dim_hierarchy::Items;
+use dim_hierarchy::{ConceptId, Items};
 use measure_agg::Agg;
 
 /// A group of blocks of a tree.
@@ -59,10 +59,28 @@ pub struct AuditLine {
     pub shards: u64,
 }
 
+/// A concept, and the aggregate of the rows under it.
+#[derive(Clone, Copy, Debug, Default, Drop, PartialEq)]
+pub struct GroupLine {
+    pub id: ConceptId,
+    pub agg: Agg,
+}
+
+/// Lines in the order of their concepts.
+pub type GroupLines = Items<GroupLine>;
+
+/// The concepts of a level that rows are under, and the aggregate of all these rows.
+#[derive(Drop)]
+pub struct GroupPage {
+    pub lines: GroupLines,
+    pub all: Agg,
+}
+
 /// What a command shows.
 #[derive(Drop)]
 pub enum Page {
     Shards(ShardList),
     Tree(TreePage),
     Audit(AuditLine),
+    Group(GroupPage),
 }

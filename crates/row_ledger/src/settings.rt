@@ -1,4 +1,9 @@
 //! The settings of a run, and the commands that are called.
+ghost use Rattle.std.specs.Prelude.{◌≡◌, IfOk};
+
+use dim_hierarchy::{Filter, copy_filter};
+use std::alloc::{AllocError, Global};
+
 /// How many servers, workers, threads for each worker and stock cells there are.
 #[derive(Clone, Copy, Debug, PartialEq, Eq)]
 pub struct Use {
@@ -9,7 +14,7 @@ pub struct Use {
 }
 
 /// A command that is no insert and no query.
-#[derive(Clone, Debug, Drop, PartialEq, Eq)]
+#[derive(Drop)]
 pub enum Call {
     /// The server pushes what it has seen grow, and pulls the shards that stand.
     Sync(u8),
@@ -29,6 +34,33 @@ pub enum Call {
     Tree(u32),
     /// To show the aggregate of all rows.
     Audit,
+    /// To show the aggregate of the rows under each concept of a level of a dimension, of those that the
+    /// filter matches.
+    Group { dim: u8, level: u8, filter: Filter },
+}
+
+impl Call {
+    /// The same command once more. Takes memory for a filter.
+    pub fn copy(&self, alloc: Global) -> Result<Call, AllocError>
+        ensures { IfOk result (λ copy. copy ≡ self.now) }
+    {
+        match self {
+            Call::Sync(server) => Ok(Call::Sync(*server)),
+            Call::Split(shard) => Ok(Call::Split(*shard)),
+            Call::Move(shard, worker) => Ok(Call::Move(*shard, *worker)),
+            Call::Balance(most) => Ok(Call::Balance(*most)),
+            Call::Barrier => Ok(Call::Barrier),
+            Call::Settle => Ok(Call::Settle),
+            Call::Shards => Ok(Call::Shards),
+            Call::Tree(shard) => Ok(Call::Tree(*shard)),
+            Call::Audit => Ok(Call::Audit),
+            Call::Group { dim, level, filter } => Ok(Call::Group {
+                dim: *dim,
+                level: *level,
+                filter: copy_filter(alloc, filter)?,
+            }),
+        }
+    }
 }
 
 /// Why a called command is declined.

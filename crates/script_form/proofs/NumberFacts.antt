@@ -1,6 +1,6 @@
 -- The values of numbers in a range.
-use Rattle.std.proofs.{Common.{◌≡◌, ◌≤◌, ◌<◌, ◌+◌, ℕ, List, [], ◌∷◌, Bool, true, false, ◌&&◌, Option, Some, None, ap, arith, refl}, lemmas.Bool.and_parts, lemmas.Bool.Decides.nat_tests}
-use Rattle.script_form.specs.{Causes.{are_fields, is_number, wrong_number}, Fields.{Record, field, in_range, is_below, measure_of, number_of, value_of}, Fits.{AreSettings, IsInRange}, Limits.{most_servers, most_workers, most_threads, fewest_cells, most_cells, shard_ids, worker_ids, most_actions}, Scripts.{filled, settings_with}, Table.form_of, declared.table.Field.Field, declared.table.Kind.Kind}
+use Rattle.std.proofs.{Common.{◌≡◌, ◌≤◌, ◌<◌, ◌+◌, ℕ, List, [], ◌∷◌, Bool, true, false, ◌&&◌, Option, Some, None, ap, arith, refl, subst}, lemmas.Bool.and_parts, lemmas.Bool.Decides.nat_tests}
+use Rattle.script_form.specs.{Causes.{are_fields, is_number, wrong_number}, Fields.{Record, field, in_range, is_below, measure_of, number_of, value_of}, Fits.{AreSettings, IsInRange}, Limits.{most_servers, most_workers, most_threads, fewest_cells, most_cells, most_levels, shard_ids, worker_ids, most_actions}, Scripts.{call_by, settings_with}, Table.form_of, declared.table.Field.Field, declared.table.Kind.Kind}
 use Rattle.std.specs.{Option.option_map_or, Prelude.{nat_le, nat_lt, not, is_some, unwrap_or}}
 use Rattle.row_ledger.specs.{declared.settings.Call.Call, declared.settings.Use.Use}
 use Rattle.row_ledger.specs.declared.settings.Call.TheVariants as call
@@ -36,16 +36,27 @@ insert_server servers r fine = (and_parts (is_below (field r 1) servers) (is_som
 pub query_server : (servers : ℕ) (r : Record) → wrong_number servers kind.Query r ≡ false → is_below (field r 1) servers ≡ true
 query_server servers r fine = (and_parts (is_below (field r 1) servers) true (not_wrong _ fine)).0
 
+its : (servers : ℕ) (one called : Call) → ◌≡◌ {A = Option Call} (Some one) (Some called) → IsInRange servers one → IsInRange servers called
+its servers one called is fits = let same : one ≡ called = cc in subst (IsInRange servers) same fits
+
 -- the numbers of a call are in their ranges
-pub filled_in_range : (servers : ℕ) (called : Call) (r : Record) → wrong_number servers (kind.Called called) r ≡ false → IsInRange servers (filled called r)
-filled_in_range servers (call.Sync server) r fine = value_below (field r 1) servers (and_parts (is_below (field r 1) servers) true (not_wrong _ fine)).0
-filled_in_range servers (call.Split shard) r fine = value_below (field r 1) shard_ids (and_parts (is_below (field r 1) shard_ids) true (not_wrong _ fine)).0
-filled_in_range servers (call.Move shard worker) r fine =
+pub call_in_range : (servers : ℕ) (k : Kind) (called : Call) (r : Record) → call_by k r ≡ Some called → wrong_number servers k r ≡ false → IsInRange servers called
+call_in_range servers kind.Sync called r is fine = its servers (call.Sync (value_of (field r 1))) called is (value_below (field r 1) servers (and_parts (is_below (field r 1) servers) true (not_wrong _ fine)).0)
+call_in_range servers kind.Split called r is fine = its servers (call.Split (value_of (field r 1))) called is (value_below (field r 1) shard_ids (and_parts (is_below (field r 1) shard_ids) true (not_wrong _ fine)).0)
+call_in_range servers kind.Move called r is fine =
     let first = and_parts (is_below (field r 1) shard_ids) (is_below (field r 2) worker_ids && true) (not_wrong _ fine) in
-    (value_below (field r 1) shard_ids first.0, value_below (field r 2) worker_ids (and_parts (is_below (field r 2) worker_ids) true first.1).0)
-filled_in_range servers (call.Balance most) r fine = value_within (field r 1) 1 most_actions (and_parts (in_range (field r 1) 1 most_actions) true (not_wrong _ fine)).0
-filled_in_range servers (call.Tree shard) r fine = value_below (field r 1) shard_ids (and_parts (is_below (field r 1) shard_ids) true (not_wrong _ fine)).0
-filled_in_range servers _ r fine = tt
+    its servers (call.Move (value_of (field r 1)) (value_of (field r 2))) called is (value_below (field r 1) shard_ids first.0, value_below (field r 2) worker_ids (and_parts (is_below (field r 2) worker_ids) true first.1).0)
+call_in_range servers kind.Balance called r is fine = its servers (call.Balance (value_of (field r 1))) called is (value_within (field r 1) 1 most_actions (and_parts (in_range (field r 1) 1 most_actions) true (not_wrong _ fine)).0)
+call_in_range servers kind.Tree called r is fine = its servers (call.Tree (value_of (field r 1))) called is (value_below (field r 1) shard_ids (and_parts (is_below (field r 1) shard_ids) true (not_wrong _ fine)).0)
+call_in_range servers kind.Barrier called r is fine = its servers call.Barrier called is tt
+call_in_range servers kind.Settle called r is fine = its servers call.Settle called is tt
+call_in_range servers kind.Shards called r is fine = its servers call.Shards called is tt
+call_in_range servers kind.Audit called r is fine = its servers call.Audit called is tt
+call_in_range servers _ called r is fine = cc
+
+-- the level of a group is one that a dimension can have
+pub group_level : (servers : ℕ) (r : Record) → wrong_number servers kind.Group r ≡ false → 1 ≤ value_of (field r 2)
+group_level servers r fine = (value_within (field r 2) 1 most_levels (and_parts (in_range (field r 2) 1 most_levels) true (not_wrong _ fine)).0).0
 
 -- what is a number where there are so many servers is one where there are more
 

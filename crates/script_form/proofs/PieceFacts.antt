@@ -15,7 +15,7 @@ split_whole p (x ∷ xs) past =
 pub split_none : (p : ℕ → Bool) (xs : List ℕ) → position p xs ≡ None → slice_split p xs ≡ xs ∷ []
 split_none p xs none = split_whole p xs (grind (arith, nat_tests))
 
-position_is : (p : ℕ → Bool) (xs : List ℕ) (i : ℕ) → position p xs ≡ Some i → (position_or_len p xs ≡ i) × (i < length xs)
+position_is : {X : Type 0} (p : X → Bool) (xs : List X) (i : ℕ) → position p xs ≡ Some i → (position_or_len p xs ≡ i) × (i < length xs)
 position_is p xs i is =
     elim (cases_Bool (nat_lt (position_or_len p xs) (length xs))) [
       | inl passes ↦
@@ -26,7 +26,7 @@ position_is p xs i is =
       | inr fails ↦ let none = rw fails at is in cc
     ]
 
-pub position_below : (p : ℕ → Bool) (xs : List ℕ) (i : ℕ) → position p xs ≡ Some i → i < length xs
+pub position_below : {X : Type 0} (p : X → Bool) (xs : List X) (i : ℕ) → position p xs ≡ Some i → i < length xs
 position_below p xs i is = (position_is p xs i is).1
 
 -- the first part ends at the first item that passes

@@ -1,12 +1,14 @@
 -- The script of the records read so far.
-use Rattle.std.proofs.{Common.{◌≡◌, ◌≢◌, ◌≤◌, ◌<◌, ◌+◌, ◌++◌, ℕ, List, get_or, [], ◌∷◌, length, map, drop, Bool, true, false, Option, Some, None, Ok, Err, arith, refl, sym, ◌∙◌, ap, All, ◌&&◌, length-append, length-drop}, lemmas.Bool.and_parts, lemmas.Bool.Decides.nat_tests, lemmas.List.{append_assoc, append-nil, length-map, length-set, nil_from_length}, lemmas.List.Elements.{All-map, All-push, filter_map-append}, lemmas.List.Splits.length-slice_split, lemmas.List.Sums.fold-append}
-use Rattle.std.specs.{List.cons_option, Option.option_to_list, Prelude.{codes, not, ◌==◌}, Str.bytes_eq}
-use Rattle.dim_hierarchy.specs.{Dimension.{Dimension, new_dimension}, Names.IsNamePick}
-use Rattle.script_form.specs.{Causes.{cause_at, is_version}, Fields.{Record, field, is_bar, is_star, value_of}, Fits.{AreSettings, Fits}, Reading.{MayStand, IsTaken, after}, Scripts.{command_by, command_of, default_settings, first_cause, first_fault, hierarchy_with, pick_of, script, script_of, settings_with}, Table.kind_of, declared.script.Cause.Cause, declared.script.Command.Command, declared.script.Script.Script, declared.script.ScriptFault.ScriptFault, declared.table.Kind.Kind}
+use Rattle.std.proofs.{Common.{◌≡◌, ◌≢◌, ◌≤◌, ◌<◌, ◌+◌, ◌++◌, ℕ, List, get_or, [], ◌∷◌, length, map, drop, Bool, true, false, Option, Some, None, Ok, Err, arith, refl, sym, ◌∙◌, ap, subst, All, ◌&&◌, inl, inr, length-append, length-drop}, lemmas.Bool.{and_parts, cases_Bool, leb-true}, lemmas.Bool.Decides.nat_tests, lemmas.List.{append_assoc, append-nil, length-map, length-set, nil_from_length}, lemmas.List.Elements.{All-map, All-push}, lemmas.List.Splits.length-slice_split, lemmas.List.Sums.fold-append}
+use Rattle.std.specs.{Option.option_to_list, Prelude.{codes, nat_le, not, unwrap_or, ◌==◌}, Str.bytes_eq}
+use Rattle.dim_hierarchy.specs.{Dimension.{Dimension, find_dim, new_dimension, tree}, Names.IsNamePick, Tree.leaf_level}
+use Rattle.script_form.specs.{Causes.{cause_at, group_cause, hierarchy_cause, is_version}, Fields.{Record, field, is_bar, is_star, value_of}, Fits.{AreSettings, Fits}, Reading.{MayStand, IsTaken}, Scripts.{after, command_by, first_cause, first_fault, hierarchy_with, nothing, pick_of, script, script_of, settings_with}, Table.kind_of, declared.script.Cause.Cause, declared.script.Command.Command, declared.script.Script.Script, declared.script.ScriptFault.ScriptFault, declared.table.Kind.Kind}
 use Rattle.script_form.specs.declared.table.Kind.TheVariants as kind
 use Rattle.script_form.specs.declared.script.Cause.TheVariants as cause
+use Rattle.script_form.specs.declared.script.Command.TheVariants as command
 use Rattle.script_form.specs.declared.script.ScriptFault.TheVariants as fault
-use Rattle.script_form.proofs.NumberFacts.{filled_in_range, insert_server, query_server, settings_more, value_below}
+use Rattle.script_form.proofs.PieceFacts.{position_below}
+use Rattle.script_form.proofs.NumberFacts.{call_in_range, group_level, insert_server, query_server, settings_more, value_below}
 
 -- of the records so far none has a cause, and this is their script
 pub record SoFar (rows : List Record) (at : ℕ) (s : Script) : Type 0 where
@@ -31,17 +33,12 @@ none_so_far = record {
 
 -- One record more.
 
-option_list : {X : Type 0} (o : Option X) → cons_option o [] ≡ option_to_list o
-option_list None = refl
-option_list (Some x) = refl
-
 pub script_of-push : (rows : List Record) (r : Record) → script_of (rows ++ r ∷ []) ≡ after (script_of rows) r
-script_of-push rows r =
-    rw (fold-append (λ with x. settings_with (kind_of (field x 0)) with x) default_settings rows (r ∷ []), fold-append (λ h x. hierarchy_with (kind_of (field x 0)) h x) [] rows (r ∷ []), filter_map-append command_of rows (r ∷ []), option_list (command_of r)) refl
+script_of-push rows r = fold-append after nothing rows (r ∷ [])
 
 -- the script with what a record of this kind says
 after_kind : Kind → Script → Record → Script
-after_kind k s r = record { with = settings_with (Some k) s.with r; hierarchy = hierarchy_with (Some k) s.hierarchy r; commands = s.commands ++ option_to_list (command_by (Some k) r) }
+after_kind k s r = record { with = settings_with (Some k) s.with r; hierarchy = hierarchy_with (Some k) s.hierarchy r; commands = s.commands ++ option_to_list (command_by (Some k) s.hierarchy r) }
 
 after_by_kind : (s : Script) (r : Record) (k : Kind) → kind_of (field r 0) ≡ Some k → after s r ≡ after_kind k s r
 unfolding after_kind
@@ -80,25 +77,53 @@ pick_lists text false star = rw (← star) (not_nil _ (omega (arith, length-slic
 picks_list : (texts : Record) → All IsNamePick (map pick_of texts)
 picks_list texts = All-map IsNamePick pick_of texts (λ k d within. let text = get_or texts k d in pick_lists text (is_star text) refl)
 
-fits_more : (place : ℕ) (s : Script) (k : Kind) (r : Record) → MayStand place s k r → (place ≤ 1 → s.commands ≡ []) → All (Fits s) s.commands → All (Fits (after_kind k s r)) (after_kind k s r).commands
+-- a group's dimension stands and has its level
+group_stands : (h : List Dimension) (dim : Option ℕ) (level : ℕ) → group_cause h dim level ≡ None → (x : ℕ) × (dim ≡ Some x) × (level ≤ leaf_level (tree h x))
+group_stands h None level none = cc
+group_stands h (Some x) level none =
+    elim (cases_Bool (nat_le level (leaf_level (tree h x)))) [
+      | inl fits ↦ (x, refl, leb-true level (leaf_level (tree h x)) fits)
+      | inr deep ↦ let never = rw deep at none in cc
+    ]
+
+group_fits : (place : ℕ) (s : Script) (r : Record) → MayStand place s kind.Group r → hierarchy_cause s.hierarchy kind.Group r ≡ None → Fits s (command.Group (unwrap_or (find_dim s.hierarchy (field r 1)) 0) (value_of (field r 2)) (map pick_of (drop 3 r)))
+group_fits place s r stands fine =
+    let (x, at, deep) = group_stands s.hierarchy (find_dim s.hierarchy (field r 1)) (value_of (field r 2)) fine in
+    let dim : unwrap_or (find_dim s.hierarchy (field r 1)) 0 ≡ x = ap (λ o. unwrap_or o 0) at in (
+      subst (λ (n : ℕ). n < length s.hierarchy) (sym dim) (position_below (λ (d : Dimension). bytes_eq d.name (field r 1)) s.hierarchy x at),
+      group_level s.with.servers r stands.form.number,
+      subst (λ (n : ℕ). value_of (field r 2) ≤ leaf_level (tree s.hierarchy n)) (sym dim) deep,
+      omega (arith, stands.form.fields, length-drop 3 r, length-map (drop 3 r) pick_of),
+      picks_list (drop 3 r),
+    )
+
+fits_more : (place : ℕ) (s : Script) (k : Kind) (r : Record) → MayStand place s k r → hierarchy_cause s.hierarchy k r ≡ None → (place ≤ 1 → s.commands ≡ []) → All (Fits s) s.commands → All (Fits (after_kind k s r)) (after_kind k s r).commands
 unfolding after_kind
-fits_more place s kind.Volap r stands begun fits = rw append-nil fits
-fits_more place s kind.Use r stands begun fits = let one = stands_second place stands.order in none_fit (after_kind kind.Use s r) s.commands (begun (omega arith))
-fits_more place s kind.Dim r stands begun fits = none_fit (after_kind kind.Dim s r) s.commands (no_commands s.commands stands.order)
-fits_more place s kind.Concept r stands begun fits = none_fit (after_kind kind.Concept s r) s.commands (no_commands s.commands stands.order)
-fits_more place s kind.Insert r stands begun fits =
+fits_more place s kind.Volap r stands fine begun fits = rw append-nil fits
+fits_more place s kind.Use r stands fine begun fits = let one = stands_second place stands.order in none_fit (after_kind kind.Use s r) s.commands (begun (omega arith))
+fits_more place s kind.Dim r stands fine begun fits = none_fit (after_kind kind.Dim s r) s.commands (no_commands s.commands stands.order)
+fits_more place s kind.Concept r stands fine begun fits = none_fit (after_kind kind.Concept s r) s.commands (no_commands s.commands stands.order)
+fits_more place s kind.Insert r stands fine begun fits =
     All-push (Fits s) s.commands _ fits (
       value_below (field r 1) s.with.servers (insert_server s.with.servers r stands.form.number),
       omega (arith, stands.form.fields, length-drop 3 r),
     )
-fits_more place s kind.Query r stands begun fits =
+fits_more place s kind.Query r stands fine begun fits =
     All-push (Fits s) s.commands _ fits (
       value_below (field r 1) s.with.servers (query_server s.with.servers r stands.form.number),
       omega (arith, stands.form.fields, length-drop 2 r, length-map (drop 2 r) pick_of),
       picks_list (drop 2 r),
     )
-fits_more place s (kind.Called called) r stands begun fits =
-    All-push (Fits s) s.commands _ fits (filled_in_range s.with.servers called r stands.form.number)
+fits_more place s kind.Group r stands fine begun fits = All-push (Fits s) s.commands _ fits (group_fits place s r stands fine)
+fits_more place s kind.Sync r stands fine begun fits = All-push (Fits s) s.commands _ fits (call_in_range s.with.servers kind.Sync _ r refl stands.form.number)
+fits_more place s kind.Split r stands fine begun fits = All-push (Fits s) s.commands _ fits (call_in_range s.with.servers kind.Split _ r refl stands.form.number)
+fits_more place s kind.Move r stands fine begun fits = All-push (Fits s) s.commands _ fits (call_in_range s.with.servers kind.Move _ r refl stands.form.number)
+fits_more place s kind.Balance r stands fine begun fits = All-push (Fits s) s.commands _ fits (call_in_range s.with.servers kind.Balance _ r refl stands.form.number)
+fits_more place s kind.Barrier r stands fine begun fits = All-push (Fits s) s.commands _ fits (call_in_range s.with.servers kind.Barrier _ r refl stands.form.number)
+fits_more place s kind.Settle r stands fine begun fits = All-push (Fits s) s.commands _ fits (call_in_range s.with.servers kind.Settle _ r refl stands.form.number)
+fits_more place s kind.Shards r stands fine begun fits = All-push (Fits s) s.commands _ fits (call_in_range s.with.servers kind.Shards _ r refl stands.form.number)
+fits_more place s kind.Tree r stands fine begun fits = All-push (Fits s) s.commands _ fits (call_in_range s.with.servers kind.Tree _ r refl stands.form.number)
+fits_more place s kind.Audit r stands fine begun fits = All-push (Fits s) s.commands _ fits (call_in_range s.with.servers kind.Audit _ r refl stands.form.number)
 
 -- A command stands behind a dimension, and no record takes a dimension away.
 
@@ -111,7 +136,7 @@ some_dims : (h : List Dimension) → (length h == 0) ≡ false → 0 < length h
 some_dims h some = grind (arith, nat_tests)
 
 -- a record that is no command adds none
-dims_kept : (s : Script) (k : Kind) (r : Record) → command_by (Some k) r ≡ None → (0 < length s.commands → 0 < length s.hierarchy) → 0 < length (after_kind k s r).commands → 0 < length (after_kind k s r).hierarchy
+dims_kept : (s : Script) (k : Kind) (r : Record) → command_by (Some k) s.hierarchy r ≡ None → (0 < length s.commands → 0 < length s.hierarchy) → 0 < length (after_kind k s r).commands → 0 < length (after_kind k s r).hierarchy
 unfolding after_kind
 dims_kept s k r none dims some =
     let before = dims (rw (none, append-nil) at some) in
@@ -152,7 +177,7 @@ one_more rows at s t r so_far taken =
       sound = λ rest. rw append_assoc (so_far.sound (r ∷ rest) ∙ first_more rows rest r none);
       begun = λ early. ap (λ u. u.commands) taken.script ∙ begun_more at s r so_far.begun taken.stands.version early;
       settings = rw (taken.script, taken.stands.form.kind) (settings_more s.with.servers s.with taken.kind r taken.stands.form.number so_far.settings);
-      fits = fits_same t (after_kind taken.kind s r) (taken.script ∙ by_kind) (fits_more at s taken.kind r taken.stands so_far.begun so_far.fits);
+      fits = fits_same t (after_kind taken.kind s r) (taken.script ∙ by_kind) (fits_more at s taken.kind r taken.stands taken.fine so_far.begun so_far.fits);
       dims = rw (taken.script ∙ by_kind) (dims_more at s taken.kind r taken.stands so_far.dims);
     }
 

@@ -4,7 +4,7 @@ use Rattle.std.specs.{List.list_all, Option.option_map_or, Prelude.{⊤, not, �
 use Rattle.csv.specs.Records.{field_at}
 use Rattle.dim_hierarchy.specs.Dimension.{Dimension, concept_fault, find_dim}
 use Rattle.row_ledger.specs.declared.settings.Use.{Use}
-use Rattle.script_form.specs.{Causes.{cause_at, cause_by_kind, cause_in, cause_under, concept_cause, hierarchy_cause, is_version, parent_of, wrong_name, wrong_number, wrong_order}, Fields.{Record, field, is_name, is_star}, Reading.after, Scripts.{concept_added, first_cause, first_fault, hierarchy_with, script, script_of, settings_with, with_named}, Table.{kind_of, width}, declared.script.Cause.Cause, declared.script.Script.Script, declared.table.Kind.Kind}
+use Rattle.script_form.specs.{Causes.{cause_at, cause_by_kind, cause_in, cause_under, concept_cause, hierarchy_cause, is_version, parent_of, wrong_name, wrong_number, wrong_order}, Fields.{Record, field, is_name, is_star}, Scripts.{after, concept_added, first_cause, first_fault, hierarchy_with, script, script_of, settings_with, with_named}, Table.{kind_of, width}, declared.script.Cause.Cause, declared.script.Script.Script, declared.table.Kind.Kind}
 use Rattle.script_form.specs.declared.table.Kind.TheVariants as kind
 use Rattle.script_form.specs.declared.script.Cause.TheVariants as cause
 use Rattle.script_form.proofs.ScriptFacts.{script_fine, script_of-push}
@@ -40,19 +40,20 @@ no_fault before (r ∷ rs) fine =
 pub fine_script : (rs : List Record) → 0 < length rs → Fine 0 (script_of []) rs → script rs ≡ Ok (script_of rs)
 fine_script rs some fine = script_fine rs some (no_fault [] rs fine)
 
--- Commands.
+-- Commands that nothing of the hierarchy can stand against: all but groups.
 
 abbrev commands : Kind → Bool
 commands kind.Volap = false
 commands kind.Use = false
 commands kind.Dim = false
 commands kind.Concept = false
+commands kind.Group = false
 commands _ = true
 
 abbrev has_form : ℕ → ℕ → Kind → Record → Bool
 has_form servers dims k r = commands k && ((length r == width k dims) && (not (wrong_number servers k r) && not (wrong_name k r)))
 
--- a command of a script of so many servers and dimensions
+-- such a command of a script of so many servers and dimensions
 unfoldable pub is_command : ℕ → ℕ → Record → Bool
 is_command servers dims r = option_map_or (λ k. has_form servers dims k r) (kind_of (field r 0)) false
 
@@ -86,6 +87,7 @@ leaves place s kind.Volap r is = cc
 leaves place s kind.Use r is = cc
 leaves place s kind.Dim r is = cc
 leaves place s kind.Concept r is = cc
+leaves place s kind.Group r is = cc
 leaves place s _ r is = record { order = refl; cause = refl; settings = refl; hierarchy = refl }
 
 pub record HasSize (s : Script) (servers dims : ℕ) : Type 0 where

@@ -1,6 +1,6 @@
 -- The causes for which a record is bad, given the script of the records before it.
-use Rattle.std.specs.{List.list_all, Prelude.{ℕ, ◌+◌, ◌==◌, ◌&&◌, ◌||◌, not, Bool, true, Option, Some, None, is_some, option_and_then, if◌then◌else◌, List, [], ◌∷◌, length, drop, bytes_eq, codes}}
-use Rattle.dim_hierarchy.specs.{Dimension.{Dimension, concept_fault, dim_fault, find, find_dim}, declared.hierarchy.ConceptFault.ConceptFault, declared.hierarchy.DimFault.DimFault}
+use Rattle.std.specs.{List.list_all, Prelude.{ℕ, ◌+◌, ◌==◌, ◌&&◌, ◌||◌, not, Bool, true, Option, Some, None, is_some, nat_le, option_and_then, if◌then◌else◌, List, [], ◌∷◌, length, drop, bytes_eq, codes}}
+use Rattle.dim_hierarchy.specs.{Dimension.{Dimension, concept_fault, dim_fault, find, find_dim, tree}, Tree.leaf_level, declared.hierarchy.ConceptFault.ConceptFault, declared.hierarchy.DimFault.DimFault}
 use Rattle.dim_hierarchy.specs.declared.hierarchy.DimFault.TheVariants as dim
 use Rattle.dim_hierarchy.specs.declared.hierarchy.ConceptFault.TheVariants as concept
 use Rattle.script_form.specs.{Fields.{Record, field, in_range, is_below, is_name, is_pick, is_star, measure_of, value_of}, Table.{form_of, kind_of, width}, declared.script.Cause.Cause, declared.script.Script.Script, declared.table.Each.Each, declared.table.Field.Field, declared.table.Kind.Kind}
@@ -52,7 +52,7 @@ are_each each.Pick texts = list_all is_pick texts
 abbrev pub wrong_name : Kind → Record → Bool
 wrong_name k r = not (are_fields is_named (form_of k).fields 1 r && are_each (form_of k).each (drop (1 + length (form_of k).fields) r))
 
--- What the hierarchy says against a dimension or a concept.
+-- What the hierarchy says against a dimension, a concept or a group.
 
 abbrev pub dim_cause : DimFault → Option Cause
 dim_cause dim.Full = Some cause.DimFull
@@ -80,9 +80,15 @@ abbrev pub cause_in : List Dimension → Option ℕ → Record → Option Cause
 cause_in h None r = Some cause.NoDim
 cause_in h (Some dim) r = cause_under h dim (field r 2) (parent_of h dim (field r 3))
 
+-- against a group by a level of a dimension, if it stands
+abbrev pub group_cause : List Dimension → Option ℕ → ℕ → Option Cause
+group_cause h None level = Some cause.NoDim
+group_cause h (Some dim) level = if nat_le level (leaf_level (tree h dim)) then None else Some cause.TooDeep
+
 abbrev pub hierarchy_cause : List Dimension → Kind → Record → Option Cause
 hierarchy_cause h kind.Dim r = option_and_then dim_cause (dim_fault h (field r 1) (value_of (field r 2)))
 hierarchy_cause h kind.Concept r = cause_in h (find_dim h (field r 1)) r
+hierarchy_cause h kind.Group r = group_cause h (find_dim h (field r 1)) (value_of (field r 2))
 hierarchy_cause h _ r = None
 
 -- The first cause of a record, in the order in which causes count.

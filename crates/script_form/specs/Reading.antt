@@ -1,6 +1,6 @@
 -- What contracts say of a record that is read behind others.
-use Rattle.std.specs.{Option.option_to_list, Prelude.{ℕ, ◌≡◌, ◌<◌, true, false, ⊤, Option, Some, None, length, ◌++◌}}
-use Rattle.script_form.specs.{Causes.{is_version, wrong_order, wrong_number, wrong_name, hierarchy_cause, cause_at}, Fields.{Record, field}, Scripts.{settings_with, hierarchy_with, command_of}, Table.{kind_of, width}, declared.record.RecordFault.RecordFault, declared.script.Cause.Cause, declared.script.Script.Script, declared.table.Kind.Kind}
+use Rattle.std.specs.Prelude.{ℕ, ◌≡◌, ◌<◌, true, false, ⊤, Option, Some, None, length}
+use Rattle.script_form.specs.{Causes.{is_version, wrong_order, wrong_number, wrong_name, hierarchy_cause, cause_at}, Fields.{Record, field}, Scripts.after, Table.{kind_of, width}, declared.record.RecordFault.RecordFault, declared.script.Cause.Cause, declared.script.Script.Script, declared.table.Kind.Kind}
 use Rattle.script_form.specs.declared.record.RecordFault.TheVariants as fault
 
 -- a record of this kind has the fields of its kind
@@ -22,10 +22,6 @@ pub record MayStand (place : ℕ) (before : Script) (k : Kind) (r : Record) : Ty
 abbrev pub TellsCause : Option Cause → RecordFault → Type 0
 TellsCause cause (fault.Bad told) = cause ≡ Some told
 TellsCause cause fault.NoMemory = ⊤
-
--- the script of the records before it, after one more
-abbrev pub after : Script → Record → Script
-after s r = record { with = settings_with (kind_of (field r 0)) s.with r; hierarchy = hierarchy_with (kind_of (field r 0)) s.hierarchy r; commands = s.commands ++ option_to_list (command_of r) }
 
 -- a record that nothing stands against, with the script of those before it and with its own
 pub record IsTaken (place : ℕ) (before new : Script) (r : Record) : Type 0 where

@@ -1,5 +1,5 @@
 -- The script that a list of records is, or where and why it is bad.
-use Rattle.std.specs.{Option.option_or, Prelude.{ℕ, pos, ◌+◌, Option, Some, None, option_map, unwrap_or, Result, Ok, Err, if◌then◌else◌, List, [], ◌∷◌, ◌++◌, length, drop, map, filter_map, fold, slice_set}}
+use Rattle.std.specs.{Option.{option_or, option_to_list}, Prelude.{ℕ, pos, ◌+◌, Option, Some, None, option_map, unwrap_or, Result, Ok, Err, if◌then◌else◌, List, [], ◌∷◌, ◌++◌, length, drop, map, fold, slice_set}}
 use Rattle.csv.specs.Reading.{default_config, records, strip_bom}
 use Rattle.dim_hierarchy.specs.{Dimension.{Dimension, dimension, find_dim, new_dimension, with_concept}, declared.filter.NamePick.NamePick}
 use Rattle.dim_hierarchy.specs.declared.filter.NamePick.TheVariants as pick
@@ -27,9 +27,6 @@ abbrev pub settings_with : Option Kind → Use → Record → Use
 settings_with (Some kind.Use) with r = settings_in r
 settings_with _ with r = with
 
-abbrev pub settings_of : List Record → Use
-settings_of rs = fold (λ with r. settings_with (kind_of (field r 0)) with r) default_settings rs
-
 -- The hierarchy.
 
 abbrev pub with_named : List Dimension → ℕ → List ℕ → ℕ → List Dimension
@@ -44,42 +41,49 @@ hierarchy_with (Some kind.Dim) h r = h ++ new_dimension (field r 1) (value_of (f
 hierarchy_with (Some kind.Concept) h r = concept_added h (unwrap_or (find_dim h (field r 1)) 0) r
 hierarchy_with _ h r = h
 
-abbrev pub hierarchy_of : List Record → List Dimension
-hierarchy_of rs = fold (λ h r. hierarchy_with (kind_of (field r 0)) h r) [] rs
-
 -- The commands.
 
 abbrev pub pick_of : List ℕ → NamePick
 pick_of text = if is_star text then pick.All else pick.Any (pieces text)
 
--- a call with the numbers of a record in place of its own
-abbrev pub filled : Call → Record → Call
-filled (call.Sync server) r = call.Sync (value_of (field r 1))
-filled (call.Split shard) r = call.Split (value_of (field r 1))
-filled (call.Move shard worker) r = call.Move (value_of (field r 1)) (value_of (field r 2))
-filled (call.Balance most) r = call.Balance (value_of (field r 1))
-filled (call.Tree shard) r = call.Tree (value_of (field r 1))
-filled other r = other
+-- the called command that a record of a kind is, if it is one without names
+abbrev pub call_by : Kind → Record → Option Call
+call_by kind.Sync r = Some (call.Sync (value_of (field r 1)))
+call_by kind.Split r = Some (call.Split (value_of (field r 1)))
+call_by kind.Move r = Some (call.Move (value_of (field r 1)) (value_of (field r 2)))
+call_by kind.Balance r = Some (call.Balance (value_of (field r 1)))
+call_by kind.Barrier r = Some call.Barrier
+call_by kind.Settle r = Some call.Settle
+call_by kind.Shards r = Some call.Shards
+call_by kind.Tree r = Some (call.Tree (value_of (field r 1)))
+call_by kind.Audit r = Some call.Audit
+call_by other r = None
 
--- the command that a record of a kind is, if it is one
-abbrev pub command_by : Option Kind → Record → Option Command
-command_by (Some kind.Insert) r =
+-- the command that a record of a kind is, if it is one, where these dimensions stand
+abbrev pub command_by : Option Kind → List Dimension → Record → Option Command
+command_by (Some kind.Insert) h r =
     Some (command.Insert (record { server = value_of (field r 1); measures = unwrap_or (measure_of (field r 2)) (pos 0); names = drop 3 r }))
-command_by (Some kind.Query) r = Some (command.Query (record { server = value_of (field r 1); filter = map pick_of (drop 2 r) }))
-command_by (Some (kind.Called call)) r = Some (command.Control (filled call r))
-command_by _ r = None
+command_by (Some kind.Query) h r = Some (command.Query (record { server = value_of (field r 1); filter = map pick_of (drop 2 r) }))
+command_by (Some kind.Group) h r = Some (command.Group (unwrap_or (find_dim h (field r 1)) 0) (value_of (field r 2)) (map pick_of (drop 3 r)))
+command_by (Some k) h r = option_map command.Control (call_by k r)
+command_by None h r = None
 
-abbrev pub command_of : Record → Option Command
-command_of r = command_by (kind_of (field r 0)) r
-
-abbrev pub commands_of : List Record → List Command
-commands_of rs = filter_map command_of rs
+abbrev pub command_of : List Dimension → Record → Option Command
+command_of h r = command_by (kind_of (field r 0)) h r
 
 -- The whole.
 
+-- the script without a record
+abbrev pub nothing : Script
+nothing = record { with = default_settings; hierarchy = []; commands = [] }
+
+-- the script of the records before it, after one more
+abbrev pub after : Script → Record → Script
+after s r = record { with = settings_with (kind_of (field r 0)) s.with r; hierarchy = hierarchy_with (kind_of (field r 0)) s.hierarchy r; commands = s.commands ++ option_to_list (command_of s.hierarchy r) }
+
 -- the script of records of which none is bad
 abbrev pub script_of : List Record → Script
-script_of rs = record { with = settings_of rs; hierarchy = hierarchy_of rs; commands = commands_of rs }
+script_of rs = fold after nothing rs
 
 -- the first cause of a record, given the records before it
 abbrev pub first_cause : List Record → Record → Option Cause

@@ -22,8 +22,8 @@ const DEFAULT: Use = Use {
 
 /// The script of a text; else the first record that is bad and its first cause, or want of memory,
 /// which it tells as well at 2^28 concepts. The settings of a script are in their ranges, each insert and query
-/// names one of its servers and has a name or a pick for each dimension, and where there is a
-/// command there is a dimension.
+/// names one of its servers and has a name or a pick for each dimension, a group has a pick for each and a
+/// level of a dimension that stands, and where there is a command there is a dimension.
 pub fn read_script(alloc: Global, text: &[u8]) -> Result<Script, ScriptFault>
     ensures answer { IsAnswer (script (records_of text.now)) result }
     ensures settings { IfOk result (λ s. AreSettings s.with) }

@@ -1,18 +1,19 @@
 //! What a record adds to the script of those before it.
-ghost use Rattle.std.specs.Prelude.{◌≡◌, ◌≤◌, true, false, Some, length, drop, IfOk, IfErr, OnErr, OnOk};
+ghost use Rattle.std.specs.Prelude.{◌≡◌, ◌≤◌, [], ◌++◌, true, false, Some, length, drop, option_map, IfOk, IfErr, OnErr, OnOk};
 ghost use Rattle.std.specs.List.{list_all};
+ghost use Rattle.std.specs.Option.{option_to_list};
 ghost use Rattle.csv.specs.Records.{fields_of};
 ghost use Rattle.script_form.specs.Limits.{most_levels};
 ghost use Rattle.script_form.specs.Fields.{field, in_range, is_below, is_name};
-ghost use Rattle.script_form.specs.Reading.{HasForm, TellsCause, IsTaken, after};
+ghost use Rattle.script_form.specs.Reading.{HasForm, TellsCause, IsTaken};
 ghost use Rattle.script_form.specs.Causes.{cause_at, hierarchy_cause, parent_of, wrong_number};
-ghost use Rattle.script_form.specs.Scripts.{command_by, filled, hierarchy_with, settings_in};
+ghost use Rattle.script_form.specs.Scripts.{after, call_by, command_by, hierarchy_with, settings_in};
 ghost use Rattle.script_form.specs.declared.table.Kind.TheVariants as kind;
 
 use crate::field::{field, is_star, measure, value_u8, value_u32};
 use crate::form::kind_at;
 use crate::names::{filter, names};
-use crate::script::{Cause, Command, NewRow, Question, Script};
+use crate::script::{Cause, Command, Commands, NewRow, Question, Script};
 use crate::table::Kind;
 use csv::ByteRecord;
 use dim_hierarchy::{ConceptFault, ConceptId, DimFault, Hierarchy, Name};
@@ -83,29 +84,72 @@ fn add_record(
             script.commands.push(Command::Query(question(alloc, row)?))?;
             Ok(())
         }
-        Kind::Called(call) => {
-            script.commands.push(Command::Control(filled(call, row)))?;
+        Kind::Group => add_group(alloc, script, row),
+        Kind::Sync
+        | Kind::Split
+        | Kind::Move
+        | Kind::Balance
+        | Kind::Barrier
+        | Kind::Settle
+        | Kind::Shards
+        | Kind::Tree
+        | Kind::Audit => {
+            add_call(&mut script.commands, kind, row)?;
             Ok(())
         }
     }
 }
 
-/// A call with the numbers of a record in place of its own.
-fn filled(call: &Call, row: &ByteRecord) -> Call
-    requires { wrong_number 256 (kind.Called call.now) (fields_of row.now) ≡ false }
-    ensures { result ≡ filled call.now (fields_of row.now) }
+/// The called command that a record of this kind is, if it is one without names.
+fn call_by(kind: &Kind, row: &ByteRecord) -> Option<Call>
+    requires { wrong_number 256 kind.now (fields_of row.now) ≡ false }
+    ensures { result ≡ call_by kind.now (fields_of row.now) }
 {
-    match call {
-        Call::Sync(_) => Call::Sync(value_u8(field(row, 1))),
-        Call::Split(_) => Call::Split(value_u32(field(row, 1))),
-        Call::Move(_, _) => Call::Move(value_u32(field(row, 1)), value_u8(field(row, 2))),
-        Call::Balance(_) => Call::Balance(value_u8(field(row, 1))),
-        Call::Tree(_) => Call::Tree(value_u32(field(row, 1))),
-        Call::Barrier => Call::Barrier,
-        Call::Settle => Call::Settle,
-        Call::Shards => Call::Shards,
-        Call::Audit => Call::Audit,
+    match kind {
+        Kind::Sync => Some(Call::Sync(value_u8(field(row, 1)))),
+        Kind::Split => Some(Call::Split(value_u32(field(row, 1)))),
+        Kind::Move => Some(Call::Move(value_u32(field(row, 1)), value_u8(field(row, 2)))),
+        Kind::Balance => Some(Call::Balance(value_u8(field(row, 1)))),
+        Kind::Tree => Some(Call::Tree(value_u32(field(row, 1)))),
+        Kind::Barrier => Some(Call::Barrier),
+        Kind::Settle => Some(Call::Settle),
+        Kind::Shards => Some(Call::Shards),
+        Kind::Audit => Some(Call::Audit),
+        _ => None,
     }
+}
+
+/// Adds the called command that a record of this kind is, if it is one without names.
+fn add_call(commands: &mut Commands, kind: &Kind, row: &ByteRecord) -> Result<(), AllocError>
+    requires { wrong_number 256 kind.now (fields_of row.now) ≡ false }
+    ensures ok { OnOk result (commands.new ≡ commands.old ++ option_to_list (option_map Command.Control (call_by kind.now (fields_of row.now)))) }
+    ensures err { OnErr result (commands.new ≡ commands.old) }
+{
+    if let Some(call) = call_by(kind, row) {
+        commands.push(Command::Control(call))?;
+    }
+    Ok(())
+}
+
+/// Adds the command of a `group` record.
+fn add_group(alloc: Global, script: &mut Script, row: &ByteRecord) -> Result<(), RecordFault>
+    requires fields { 3 ≤ length (fields_of row.now) }
+    requires level { in_range (field (fields_of row.now) 2) 1 most_levels ≡ true }
+    ensures no_cause { OnOk result (hierarchy_cause script.old.hierarchy kind.Group (fields_of row.now) ≡ None) }
+    ensures ok { OnOk result (script.new ≡ record script.old { commands = script.old.commands ++ option_to_list (command_by (Some kind.Group) script.old.hierarchy (fields_of row.now)) }) }
+    ensures cause { IfErr result (TellsCause (hierarchy_cause script.old.hierarchy kind.Group (fields_of row.now))) }
+    ensures err { OnErr result (script.new ≡ script.old) }
+{
+    let Some(dim) = script.hierarchy.find_dim(field(row, 1)) else {
+        return Err(RecordFault::Bad(Cause::NoDim));
+    };
+    let level = value_u8(field(row, 2));
+    if level > script.hierarchy.levels(dim) {
+        return Err(RecordFault::Bad(Cause::TooDeep));
+    }
+    let filter = filter(alloc, row, 3)?;
+    script.commands.push(Command::Group { dim, level, filter })?;
+    Ok(())
 }
 
 /// The settings of a `use` record.
@@ -184,7 +228,7 @@ fn new_row(alloc: Global, row: &ByteRecord) -> Result<NewRow, AllocError>
     requires fields { 3 ≤ length (fields_of row.now) }
     requires names { list_all is_name (drop 3 (fields_of row.now)) ≡ true }
     ensures { IfOk result
-        (λ new. command_by (Some kind.Insert) (fields_of row.now) ≡ Some (Command.Insert new)) }
+        (λ new. command_by (Some kind.Insert) [] (fields_of row.now) ≡ Some (Command.Insert new)) }
 {
     Ok(NewRow {
         server: value_u8(field(row, 1)),
@@ -198,7 +242,7 @@ fn question(alloc: Global, row: &ByteRecord) -> Result<Question, AllocError>
     requires server { is_below (field (fields_of row.now) 1) 256 ≡ true }
     requires fields { 2 ≤ length (fields_of row.now) }
     ensures { IfOk result
-        (λ question. command_by (Some kind.Query) (fields_of row.now) ≡ Some (Command.Query question)) }
+        (λ question. command_by (Some kind.Query) [] (fields_of row.now) ≡ Some (Command.Query question)) }
 {
     Ok(Question {
         server: value_u8(field(row, 1)),

@@ -21,13 +21,13 @@ pub enum Cause {
     DimFull,
     /// A dimension has the name already.
     DimTwice,
-    /// The concept's dimension does not stand.
+    /// The dimension of a concept or of a group does not stand.
     NoDim,
     /// The parent is neither `*` nor a concept of the dimension.
     NoParent,
     /// A concept of the dimension has the name already.
     ConceptTwice,
-    /// The parent is on the leaf level.
+    /// The parent is on the leaf level, or the dimension has no level of a group's number.
     TooDeep,
 }
 
@@ -60,7 +60,15 @@ pub struct Question {
 pub enum Command {
     Insert(NewRow),
     Query(Question),
+    /// A called command without names.
     Control(Call),
+    /// The aggregates of the rows under each concept of a level of a dimension, of those that the filter
+    /// matches.
+    Group {
+        dim: u8,
+        level: u8,
+        filter: NameFilter,
+    },
 }
 
 /// Commands in the order of the script.

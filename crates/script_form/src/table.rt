@@ -2,9 +2,8 @@
 //! each dimension. All that is said of one kind alone is said here, but for what its record adds.
 ghost use Rattle.std.specs.Prelude.{◌≡◌, ◌≤◌};
 ghost use Rattle.std.specs.Option.{option_copied};
-ghost use Rattle.script_form.specs.Table.{form_of, kind_of, width};
+ghost use Rattle.script_form.specs.Table.{form_of, kind_called, kind_of, width};
 ghost use Rattle.script_form.specs.declared.table.Each.TheVariants as each;
-ghost use Rattle.script_form.specs.declared.table.Kind.TheVariants as kind;
 
 use crate::limits::{
     FEWEST_CELLS, MOST_ACTIONS, MOST_CELLS, MOST_LEVELS, MOST_SERVERS, MOST_THREADS, MOST_WORKERS,
@@ -13,8 +12,8 @@ use crate::limits::{
 use crate::script::Command;
 use row_ledger::Call;
 
-/// What a record is. The numbers of a call are zeros in its kind, as they stand in the record.
-#[derive(Drop)]
+/// What a record is.
+#[derive(Clone, Copy)]
 pub(crate) enum Kind {
     Volap,
     Use,
@@ -22,7 +21,16 @@ pub(crate) enum Kind {
     Concept,
     Insert,
     Query,
-    Called(Call),
+    Group,
+    Sync,
+    Split,
+    Move,
+    Balance,
+    Barrier,
+    Settle,
+    Shards,
+    Tree,
+    Audit,
 }
 
 /// What a field must be.
@@ -74,15 +82,16 @@ const KINDS: &[Kind] = &[
     Kind::Concept,
     Kind::Insert,
     Kind::Query,
-    Kind::Called(Call::Sync(0)),
-    Kind::Called(Call::Split(0)),
-    Kind::Called(Call::Move(0, 0)),
-    Kind::Called(Call::Balance(0)),
-    Kind::Called(Call::Barrier),
-    Kind::Called(Call::Settle),
-    Kind::Called(Call::Shards),
-    Kind::Called(Call::Tree(0)),
-    Kind::Called(Call::Audit),
+    Kind::Group,
+    Kind::Sync,
+    Kind::Split,
+    Kind::Move,
+    Kind::Balance,
+    Kind::Barrier,
+    Kind::Settle,
+    Kind::Shards,
+    Kind::Tree,
+    Kind::Audit,
 ];
 
 /// A row.
@@ -103,7 +112,7 @@ fn plain(word: &'static str, fields: &'static [Field]) -> Form
     row(word, fields, Each::Nothing)
 }
 
-/// The row of a kind, whatever the numbers of a call are.
+/// The row of a kind.
 pub(crate) fn form_of(kind: &Kind) -> Form
     ensures word { result.word.now ≡ (form_of kind.now).word }
     ensures fields { result.fields.now ≡ (form_of kind.now).fields }
@@ -124,26 +133,38 @@ pub(crate) fn form_of(kind: &Kind) -> Form
         Kind::Concept => plain("concept", &[Field::Name, Field::Name, Field::Parent]),
         Kind::Insert => row("insert", &[Field::Server, Field::Measure], Each::Name),
         Kind::Query => row("query", &[Field::Server], Each::Pick),
-        Kind::Called(call) => form_of_call(call),
+        Kind::Group => row(
+            "group",
+            &[Field::Name, Field::Range(1, MOST_LEVELS)],
+            Each::Pick,
+        ),
+        Kind::Sync => plain("sync", &[Field::Server]),
+        Kind::Split => plain("split", &[SHARD]),
+        Kind::Move => plain("move", &[SHARD, Field::Below(WORKER_IDS)]),
+        Kind::Balance => plain("balance", &[Field::Range(1, MOST_ACTIONS)]),
+        Kind::Barrier => plain("barrier", &[]),
+        Kind::Settle => plain("settle", &[]),
+        Kind::Shards => plain("shards", &[]),
+        Kind::Tree => plain("tree", &[SHARD]),
+        Kind::Audit => plain("audit", &[]),
     }
 }
 
-/// The row of a called command, whatever its numbers are.
-fn form_of_call(call: &Call) -> Form
-    ensures word { result.word.now ≡ (form_of (kind.Called call.now)).word }
-    ensures fields { result.fields.now ≡ (form_of (kind.Called call.now)).fields }
-    ensures each { result.each ≡ (form_of (kind.Called call.now)).each }
+/// The kind of a called command.
+fn kind_called(call: &Call) -> Kind
+    ensures { result ≡ kind_called call.now }
 {
     match call {
-        Call::Sync(_) => plain("sync", &[Field::Server]),
-        Call::Split(_) => plain("split", &[SHARD]),
-        Call::Move(_, _) => plain("move", &[SHARD, Field::Below(WORKER_IDS)]),
-        Call::Balance(_) => plain("balance", &[Field::Range(1, MOST_ACTIONS)]),
-        Call::Barrier => plain("barrier", &[]),
-        Call::Settle => plain("settle", &[]),
-        Call::Shards => plain("shards", &[]),
-        Call::Tree(_) => plain("tree", &[SHARD]),
-        Call::Audit => plain("audit", &[]),
+        Call::Sync(_) => Kind::Sync,
+        Call::Split(_) => Kind::Split,
+        Call::Move(_, _) => Kind::Move,
+        Call::Balance(_) => Kind::Balance,
+        Call::Barrier => Kind::Barrier,
+        Call::Settle => Kind::Settle,
+        Call::Shards => Kind::Shards,
+        Call::Tree(_) => Kind::Tree,
+        Call::Audit => Kind::Audit,
+        Call::Group { .. } => Kind::Group,
     }
 }
 
@@ -180,7 +201,8 @@ impl Command {
         let form = match self {
             Command::Insert(_) => form_of(&Kind::Insert),
             Command::Query(_) => form_of(&Kind::Query),
-            Command::Control(call) => form_of_call(call),
+            Command::Control(call) => form_of(&kind_called(call)),
+            Command::Group { .. } => form_of(&Kind::Group),
         };
         form.word
     }

@@ -3,7 +3,7 @@ use Rattle.std.proofs.{Common.{◌≡◌, ◌∙◌, ℕ, zero, suc, ◌+◌, �
 use Rattle.std.specs.{List.AllZip, Prelude.{Option, Some, None, Contains, slice_get, zip}}
 use Rattle.dim_hierarchy.specs.Dimension.{Dimension}
 use Rattle.row_ledger.specs.{Classes.class_of, Past.{before, event_at}, declared.event.Event.Event, declared.event.Event.TheVariants.Called, declared.settings.Call.Call, declared.settings.Use.Use}
-use Rattle.script_form.specs.{declared.script.Command.Command, declared.script.Command.TheVariants.{Insert, Query, Control}}
+use Rattle.script_form.specs.{declared.script.Command.Command, declared.script.Command.TheVariants.{Insert, Query, Control, Group}}
 use Rattle.script_run.proofs.{Begin.bool-or, Ranks.{least, ranks-closing, ranks-open}, Whole.{places-length, ranks-length, same-default, second}}
 use Rattle.script_run.specs.{Between.ClosingLaw, Parts.place_in, Phases.{closes, is_closing, ranks, ranks_from}, Places.places, Runs.{Begins, BeginsAt, EndsBefore, IsRunSoFar}}
 
@@ -61,6 +61,7 @@ calls-closing : (with : Use) (h : List Dimension) (past : List Event) (session :
 calls-closing with h past session call (Insert new) begins is = absurd begins
 calls-closing with h past session call (Query question) begins is = absurd begins
 calls-closing with h past session call (Control called) begins is = ap (λ (x : Call). is_closing (class_of x)) (sym begins.1) ∙ is
+calls-closing with h past session call (Group dim level names) begins is = refl
 
 begun-closing : (with : Use) (h : List Dimension) (history : List Event) (session : ℕ) (call : Call) (c : Command) (of : ℕ) → BeginsAt with h history c (Some of)
     → event_at history of ≡ Some (Called session call) → is_closing (class_of call) ≡ true → closes c ≡ true

@@ -4,7 +4,7 @@ use Rattle.std.specs.Prelude.{Option, Some, None, slice_get, IsTrue}
 use Rattle.dim_hierarchy.specs.Dimension.{Dimension}
 use Rattle.row_ledger.specs.{Past.{event_at, is_over, is_beginning}, declared.event.Event.Event, declared.event.Event.TheVariants.Ended, declared.settings.Use.Use}
 use Rattle.row_ledger.proofs.Positions.{event_at-here, event_at-older, event_at-past, before-older, before-here}
-use Rattle.script_form.specs.{declared.script.Command.Command, declared.script.Command.TheVariants.{Insert, Query, Control}}
+use Rattle.script_form.specs.{declared.script.Command.Command, declared.script.Command.TheVariants.{Insert, Query, Control, Group}}
 use Rattle.script_run.specs.{Parts.{IsPartAt, IsNext, HasPlace}, Runs.{HasPulls, Begins, BeginsAt, EndsBefore}}
 
 pub below-or : (a b : ℕ) → (a < b) ⊎ (b ≤ a)
@@ -78,6 +78,7 @@ begins-pulls : (with : Use) (h : List Dimension) (c : Command) (e : Event) (hist
 begins-pulls with h (Insert new) (Ended of how) history begins = absurd begins
 begins-pulls with h (Query question) (Ended of how) history begins = absurd begins
 begins-pulls with h (Control called) (Ended of how) history begins = absurd begins
+begins-pulls with h (Group dim level names) (Ended of how) history begins = absurd begins
 begins-pulls with h c e history begins = tt
 
 same-command : (commands : List Command) (k : ℕ) (c d : Command) → slice_get commands k ≡ Some c → slice_get commands k ≡ Some d → c ≡ d

@@ -1,7 +1,7 @@
 -- The phases of a script: each ends with a command that closes it, or with the script.
 use Rattle.std.specs.Prelude.{ℕ, ◌+◌, ◌*◌, Bool, true, false, if◌then◌else◌, List, [], ◌∷◌, take, flat_map}
 use Rattle.row_ledger.specs.{Classes.class_of, declared.class.Class.Class, declared.class.Class.TheVariants.{Settle, Bare, Page}}
-use Rattle.script_form.specs.{declared.script.Command.Command, declared.script.Command.TheVariants.Control}
+use Rattle.script_form.specs.{declared.script.Command.Command, declared.script.Command.TheVariants.{Control, Group}}
 
 -- whether a called command closes its phase: it begins when all others of the phase have ended
 abbrev pub is_closing : Class → Bool
@@ -12,6 +12,7 @@ is_closing class = false
 
 abbrev pub closes : Command → Bool
 closes (Control call) = is_closing (class_of call)
+closes (Group dim level filter) = true
 closes _ = false
 
 -- phases with one command more in front of the first

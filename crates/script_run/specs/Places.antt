@@ -2,24 +2,26 @@
 -- the second with the second, and so on.
 use Rattle.std.specs.{List.list_all, Option.option_map_or, Prelude.{ℕ, ◌+◌, ◌==◌, Bool, false, Option, if◌then◌else◌, List, [], ◌∷◌, ◌++◌, length, count_by, find, slice_get}}
 use Rattle.row_ledger.specs.{Classes.class_of, Past.{session_in, is_end_of, is_over}, declared.class.Class.Class, declared.class.Class.TheVariants.Sync, declared.event.Event.Event, declared.settings.Use.Use}
-use Rattle.script_form.specs.{declared.script.Command.Command, declared.script.Command.TheVariants.{Insert, Query, Control}}
+use Rattle.script_form.specs.{declared.script.Command.Command, declared.script.Command.TheVariants.{Insert, Query, Control, Group}}
 
 -- the session of a called command: a sync's is the pulling one, any other's the controlling one
 abbrev pub session_of_call : Use → Class → ℕ
 session_of_call with (Sync server) = with.servers
 session_of_call with class = with.servers + 1
 
--- the session of a command: an insert's and a query's is that of its server
+-- the session of a command: an insert's and a query's is that of its server, a group's the controlling one
 abbrev pub session_of : Use → Command → ℕ
 session_of with (Insert new) = new.server
 session_of with (Query question) = question.server
 session_of with (Control called) = session_of_call with (class_of called)
+session_of with (Group dim level filter) = with.servers + 1
 
 -- the server of a command; a called one has none, for which its events have 0
 abbrev pub server_for : Command → ℕ
 server_for (Insert new) = new.server
 server_for (Query question) = question.server
 server_for (Control called) = 0
+server_for (Group dim level filter) = 0
 
 -- how many commands are of a session
 abbrev pub count_of : Use → ℕ → List Command → ℕ

@@ -1,8 +1,9 @@
 -- A history is a run of a script's commands, whole or in part.
 use Rattle.std.specs.{List.AllZip, Prelude.{ℕ, ◌≡◌, ◌≢◌, ◌+◌, ◌<◌, ◌⊎◌, ⊤, Bool, true, false, IsTrue, Option, Some, None, is_none, List, zip, position, AllPairs, Contains, IfSome, [], ◌∷◌, length, take}}
-use Rattle.dim_hierarchy.specs.{Dimension.Dimension, Filter.{IsFilterNamed, picks}, Row.{IsCoordNamed, leaves}}
+use Rattle.dim_hierarchy.specs.{Dimension.Dimension, Filter.{IsFilterNamed, picks}, Row.{IsCoordNamed, leaves}, declared.filter.Pick.Pick}
+use Rattle.row_ledger.specs.declared.settings.Call.TheVariants as call_is
 use Rattle.row_ledger.specs.{Classes.class_of, Past.{event_at, before, is_over, is_beginning, call_at}, Right.EachEvent, Settled.{pulls_since, settle_pulls}, Site.known, declared.class.Class.Class, declared.class.Class.TheVariants.{Sync, Settle, Bare}, declared.event.Event.Event, declared.event.Event.TheVariants.{Begun, Acked, Asked, Unknown, Failed, Refused, Called, Ended}, declared.settings.Call.Call, declared.settings.How.How, declared.settings.How.TheVariants.{Fine, NoMemory}, declared.settings.Use.Use}
-use Rattle.script_form.specs.{declared.script.Command.Command, declared.script.Command.TheVariants.{Insert, Query, Control}}
+use Rattle.script_form.specs.{declared.script.Command.Command, declared.script.Command.TheVariants.{Insert, Query, Control, Group}}
 use Rattle.script_run.specs.{Phases.{phases_to, ranks}, Places.{session_of, session_of_call, server_for, places, are_over, end_of}}
 
 -- How a command begins, and that one ends before another begins.
@@ -12,16 +13,17 @@ abbrev pub can_be_refused : Class → Bool
 can_be_refused Bare = false
 can_be_refused class = true
 
--- The first dimension in which a command's name is not known: an insert's is that of no leaf concept, a query's of none.
--- A called command has no names.
+-- The first dimension in which a command's name is not known: an insert's is that of no leaf concept, a query's and a
+-- group's of none. Any other called command has no names.
 abbrev pub first_unknown : List Dimension → Command → Option ℕ
 first_unknown h (Insert new) = position is_none (leaves h new.names)
 first_unknown h (Query question) = position is_none (picks h question.filter)
 first_unknown h (Control called) = None
+first_unknown h (Group dim level filter) = position is_none (picks h filter)
 
 -- An event behind a past begins a command, with the command's session: an insert or a query with its server and what its
--- names stand for; a command of another kind as that call; any with the first dimension in which a name of its is not
--- known there; or, but for a barrier, it is refused.
+-- names stand for; a group as the call of what its names stand for; a command of another kind as that call; any with the
+-- first dimension in which a name of its is not known there; or, but for a barrier, it is refused.
 abbrev pub Begins : Use → List Dimension → List Event → Command → Event → Type 0
 Begins with h past (Insert new) (Begun session server row) =
     (session ≡ new.server) × (server ≡ new.server) × (row.measures ≡ new.measures) × IsCoordNamed (known h past) new.names row.at
@@ -31,6 +33,9 @@ Begins with h past (Query question) (Asked session server filter) =
 Begins with h past (Query question) (Refused session) = session ≡ question.server
 Begins with h past (Control called) (Refused session) = (session ≡ session_of_call with (class_of called)) × IsTrue (can_be_refused (class_of called))
 Begins with h past (Control called) (Called session call) = (session ≡ session_of_call with (class_of called)) × (call ≡ called)
+Begins with h past (Group dim level names) (Called session call) =
+    (session ≡ with.servers + 1) × ((filter : List Pick) × IsFilterNamed (known h past) names filter × (call ≡ call_is.Group dim level filter))
+Begins with h past (Group dim level names) (Refused session) = session ≡ with.servers + 1
 Begins with h past c (Unknown session server dim) =
     (session ≡ session_of with c) × (server ≡ server_for c) × (first_unknown (known h past) c ≡ Some dim)
 Begins with h past _ _ = ⊥

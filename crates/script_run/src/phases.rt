@@ -15,6 +15,7 @@ pub fn closes(command: &Command) -> bool
         Command::Control(call) => {
             matches!(call.class(), Class::Bare | Class::Settle | Class::Page(_))
         }
+        Command::Group { .. } => true,
     }
 }
 

@@ -19,7 +19,7 @@ pub fn session_of(with: &Use, command: &Command) -> u16
         Command::Insert(row) => u16::from(row.server),
         Command::Query(question) => u16::from(question.server),
         Command::Control(Call::Sync(_)) => u16::from(with.servers),
-        Command::Control(_) => u16::from(with.servers) + 1,
+        Command::Control(_) | Command::Group { .. } => u16::from(with.servers) + 1,
     }
 }
 

@@ -1,11 +1,11 @@
 -- Where each session has done its first commands, the history is a part of a run; where it has done all, it is through with them.
-use Rattle.std.proofs.{Common.{◌≡◌, ◌∙◌, ℕ, suc, ◌+◌, ◌-◌, ◌<◌, ◌≤◌, ◌⊎◌, inl, inr, Bool, true, List, [], ◌∷◌, ◌++◌, length, take, get_or, Option, Some, None, refl, sym, ap, subst, arith, append-nil, length-append}, lemmas.Option.{slice_get_past, slice_get_within}}
+use Rattle.std.proofs.{Common.{◌≡◌, ◌∙◌, ℕ, suc, ◌+◌, ◌-◌, ◌<◌, ◌≤◌, ◌⊎◌, inl, inr, Bool, true, false, List, [], ◌∷◌, ◌++◌, length, take, get_or, Option, Some, None, refl, sym, ap, subst, arith, append-nil, length-append}, lemmas.Option.{slice_get_past, slice_get_within}}
 use Rattle.std.specs.Prelude.{IsTrue, IfSome, is_some, slice_get}
 use Rattle.dim_hierarchy.specs.Dimension.{Dimension}
 use Rattle.row_ledger.proofs.Before.{before-at}
 use Rattle.row_ledger.specs.{Classes.class_of, Past.{before, event_at, is_beginning, is_over, session_in}, Right.{EachEvent, IsRightEnd, Site, Stands}, Settled.pulls_since, declared.event.Event.Event, declared.event.Event.TheVariants.{Called, Ended}, declared.settings.Call.Call, declared.settings.How.How, declared.settings.Use.Use}
 use Rattle.script_form.specs.declared.script.Command.{Command}
-use Rattle.script_form.specs.declared.script.Command.TheVariants.{Insert, Query, Control}
+use Rattle.script_form.specs.declared.script.Command.TheVariants.{Insert, Query, Control, Group}
 use Rattle.script_run.proofs.{Begin.bool-or, Between.get-behind, Grow.{below-or, ends-none, within}, NextCommand.some-eq, PhaseEnds.{first-place, get-first, start_law}, PlaceFacts.{GoesOn, HaveBegun, count_of-append, places_behind-kept}, Whole.get-some}
 use Rattle.script_run.specs.{Between.IsThrough, Parts.{IsPartAt, Waits, place_in}, Places.{begins_of, count_of, session_of}, Runs.{ArePulls, Begins, BeginsAt, EndsBefore, HasPulls, is_pulling}}
 use Rattle.session_runs.proofs.{Later.{at-first, before-then, begins-then, behind-or, begins-within, each-at, each-from, ends-behind, ends-then, has-begun, more-from, over-then}, Pulls.{PullsAloneTo, ends-once, is-called, plain-pulls}, Streams.{among, count-past, in-stream, place-behind, stream-length}, Turns.{AreDone, IsDone, in-turn}}
@@ -22,11 +22,13 @@ some-session (Some s) is = (s, refl)
 order-of : (a b : ℕ) → (a < b) ⊎ (a ≡ b) ⊎ (b < a)
 order-of a b = grind arith
 
--- the command that a call's event begins
-called-command : (with : Use) (h : List Dimension) (past : List Event) (session : ℕ) (call : Call) (c : Command) → Begins with h past c (Called session call) → c ≡ Control call
-called-command with h past session call (Insert new) begins = absurd begins
-called-command with h past session call (Query question) begins = absurd begins
-called-command with h past session call (Control called) begins = ap Control (sym begins.1)
+-- the command that begins with a call that pulls
+called-command : (with : Use) (h : List Dimension) (past : List Event) (session : ℕ) (call : Call) (c : Command) → Begins with h past c (Called session call) → is_pulling (class_of call) ≡ true → c ≡ Control call
+called-command with h past session call (Insert new) begins pulls = absurd begins
+called-command with h past session call (Query question) begins pulls = absurd begins
+called-command with h past session call (Control called) begins pulls = ap Control (sym begins.1)
+called-command with h past session call (Group dim level names) begins pulls =
+    absurd (let never : false ≡ true = sym (ap (λ (c : Call). is_pulling (class_of c)) begins.1.2) ∙ pulls in cc)
 
 -- Commands of which one waits for another only where both are of one session, and those that pull are of one too.
 pub record GoTogether (with : Use) (done commands : List Command) : Type 0 where
@@ -279,7 +281,7 @@ module _ (site : Site) (usable : ℕ → Bool) (with : Use) (h : List Dimension)
               let found = found-at p event called.is refl high in
               let begins = found.is.is.begins in
               let same_event : begins.0 ≡ event = some-eq begins.0 event (event_at now p) begins.1 called.is in
-              let command : found.command ≡ Control other = called-command with h (before now p) called.session other found.command (subst (Begins with h (before now p) found.command) same_event begins.2) in
+              let command : found.command ≡ Control other = called-command with h (before now p) called.session other found.command (subst (Begins with h (before now p) found.command) same_event begins.2) other_pulls in
               let there : slice_get commands found.place ≡ Some (Control other) = found.is.at ∙ ap Some command in
               let one : found.session ≡ s = sym found.is.own ∙ ap (session_of with) command ∙ together.pulling found.place i other call there is.at other_pulls pulling ∙ is.own in
               let there_now : IsNew s found.place found.command p = subst (λ x. IsNew x found.place found.command p) one found.is in
@@ -316,7 +318,7 @@ module _ (site : Site) (usable : ℕ → Bool) (with : Use) (h : List Dimension)
                   let found = found-at of event at_of refl behind in
                   let begins = found.is.is.begins in
                   let same_event : begins.0 ≡ event = some-eq begins.0 event (event_at now of) begins.1 at_of in
-                  let command : found.command ≡ Control end.call = called-command with h (before now of) called.session end.call found.command (subst (Begins with h (before now of) found.command) same_event begins.2) in
+                  let command : found.command ≡ Control end.call = called-command with h (before now of) called.session end.call found.command (subst (Begins with h (before now of) found.command) same_event begins.2) pulling in
                   let is_new : IsNew found.session found.place (Control end.call) of = subst (λ c. IsNew found.session found.place c of) command found.is in
                   is_new.is.pulls (alone found.session found.place end.call of is_new pulling) p how at
             ]

@@ -42,7 +42,7 @@ is_shown = record {
 pub returns : goal.returns
 returns c =
     let acked = KeepsRight-insert site placeless opened 0 0 row (0 ∷ []) (opened_right placeless) refl refl in
-    let asked = KeepsRight-called site placeless past 3 (Tree 0) acked in
+    let asked = KeepsRight-called site placeless past 3 (Tree 0) tt acked in
     let told = KeepsRight-shown site placeless called 4 (page.Tree (page_with 0 1 once)) asked
     (record { call = Tree 0; called = refl; is_open = refl; first = refl; asked = refl; next = refl; alone = refl; shown = is_shown }) in
     let ended = KeepsRight-ended site placeless _ 4 Fine told (record { call = Tree 0; called = refl; is_open = refl; may_end = refl; page = refl }) in

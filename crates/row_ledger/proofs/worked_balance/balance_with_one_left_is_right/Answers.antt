@@ -14,18 +14,18 @@ crowd_right (suc n) = KeepsRight-begun site all (crowd n) 0 0 (crowd_row n) (cro
 
 moved_right : KeepsRight site all (Ended 37 Fine ∷ Moved 37 1 0 ∷ Called 3 (Move 1 0) ∷ crowd 35)
 moved_right =
-    let called = KeepsRight-called site all (crowd 35) 3 (Move 1 0) (crowd_right 35) in
+    let called = KeepsRight-called site all (crowd 35) 3 (Move 1 0) tt (crowd_right 35) in
     let done = KeepsRight-moved site all _ 37 1 0 called
     (record { call = Move 1 0; called = refl; is_open = refl; asked = (refl, refl); live = refl }) in
     KeepsRight-ended site all _ 37 Fine done (record { call = Move 1 0; called = refl; is_open = refl; may_end = (refl, (refl, refl)); page = refl })
 
 to_balance_right : KeepsRight site all to_balance
 to_balance_right =
-    let called = KeepsRight-called site all _ 3 (Split 0) moved_right in
+    let called = KeepsRight-called site all _ 3 (Split 0) tt moved_right in
     let done = KeepsRight-split site all _ 40 0 2 3 called
     (record { done = record { call = Split 0; called = refl; is_open = refl; asked = (refl, refl); live = refl }; next = refl; after = refl }) in
     let ended = KeepsRight-ended site all _ 40 Fine done (record { call = Split 0; called = refl; is_open = refl; may_end = (refl, refl); page = refl }) in
-    KeepsRight-called site all _ 3 (Balance 4) ended
+    KeepsRight-called site all _ 3 (Balance 4) tt ended
 
 -- two rows stand alone in their shards, and all others in the third one
 

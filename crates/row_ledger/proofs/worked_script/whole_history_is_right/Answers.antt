@@ -8,6 +8,6 @@ pub returns : goal.returns
 unfolding is_under way_up
 returns c =
     let answered = KeepsRight-query site all told 1 1 for_de (row ∷ []) once told_right told_answer refl in
-    let called = KeepsRight-called site all _ 3 Barrier (KeepsRight-unknown site all _ 1 1 0 answered) in
+    let called = KeepsRight-called site all _ 3 Barrier tt (KeepsRight-unknown site all _ 1 1 0 answered) in
     IsRight-kept site all (whole_history once)
     (KeepsRight-ended site all _ 13 Fine called (record { call = Barrier; called = refl; is_open = refl; may_end = tt; page = refl }))

@@ -5,10 +5,10 @@ use Rattle.row_ledger.proofs.worked_shards.declined_and_fine_moves_are_right.Goa
 
 pub returns : goal.returns
 returns c =
-    let asked = KeepsRight-called site all inserted 3 (Move 0 7) inserted_right in
+    let asked = KeepsRight-called site all inserted 3 (Move 0 7) tt inserted_right in
     let declined = KeepsRight-ended site all _ 4 (Declined Unknown) asked
     (record { call = Move 0 7; called = refl; is_open = refl; may_end = (refl, refl); page = refl }) in
-    let again = KeepsRight-called site all _ 3 (Move 0 1) declined in
+    let again = KeepsRight-called site all _ 3 (Move 0 1) tt declined in
     let done = KeepsRight-moved site all _ 6 0 1 again
     (record { call = Move 0 1; called = refl; is_open = refl; asked = (refl, refl); live = refl }) in
     IsRight-kept site all moved

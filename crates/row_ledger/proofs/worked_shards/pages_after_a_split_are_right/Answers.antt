@@ -51,21 +51,21 @@ tree_is = record {
 
 shards_right : KeepsRight site all (shards_shown all_lines)
 shards_right =
-    let called = KeepsRight-called site all (across_split once) 3 Shards across_right in
+    let called = KeepsRight-called site all (across_split once) 3 Shards tt across_right in
     let shown = KeepsRight-shown site all _ 11 (page.Shards all_lines) called
     (record { call = Shards; called = refl; is_open = refl; first = refl; asked = tt; next = refl; alone = refl; shown = shards_are }) in
     KeepsRight-ended site all _ 11 Fine shown (record { call = Shards; called = refl; is_open = refl; may_end = refl; page = refl })
 
 audit_right : KeepsRight site all (audit_shown both)
 audit_right =
-    let called = KeepsRight-called site all (shards_shown all_lines) 3 Audit shards_right in
+    let called = KeepsRight-called site all (shards_shown all_lines) 3 Audit tt shards_right in
     let shown = KeepsRight-shown site all _ 14 (page.Audit (record { agg = both; shards = 3 })) called
     (record { call = Audit; called = refl; is_open = refl; first = refl; asked = tt; next = refl; alone = refl; shown = record { total = refl; count = refl } }) in
     KeepsRight-ended site all _ 14 Fine shown (record { call = Audit; called = refl; is_open = refl; may_end = refl; page = refl })
 
 pub returns : goal.returns
 returns c =
-    let called = KeepsRight-called site all (audit_shown both) 3 (Tree 2) audit_right in
+    let called = KeepsRight-called site all (audit_shown both) 3 (Tree 2) tt audit_right in
     let shown = KeepsRight-shown site all _ 17 (page.Tree tree_of_two) called
     (record { call = Tree 2; called = refl; is_open = refl; first = refl; asked = refl; next = refl; alone = refl; shown = tree_is }) in
     IsRight-kept site all (tree_shown tree_of_two)
