@@ -4,7 +4,7 @@ use Rattle.std.specs.Prelude.{ℕ, ◌≡◌, ◌+◌, ◌<◌, ◌^◌, Bool, t
 use Rattle.dim_hierarchy.specs.{Dimension.Dimension, Row.IsCoordOf, declared.row.Coord.Coord, declared.row.Row.Row}
 use Rattle.query_router.specs.Desk.{DeskValue, verdict_of}
 use Rattle.query_router.specs.declared.part.Verdict.TheVariants as verdict
-use Rattle.row_ledger.specs.{Classes.class_of, LedgerValue.LedgerValue, Right.Asks, declared.class.Class.Class, declared.event.Event.Event, declared.event.Event.TheVariants.Ended, declared.page.Page.Page, declared.settings.Call.Call, declared.settings.How.How}
+use Rattle.row_ledger.specs.{Classes.class_of, Groups.IsCallOf, LedgerValue.LedgerValue, Right.Asks, declared.class.Class.Class, declared.event.Event.Event, declared.event.Event.TheVariants.Ended, declared.page.Page.Page, declared.settings.Call.Call, declared.settings.How.How}
 use Rattle.row_ledger.specs.declared.class.Class.TheVariants as class
 use Rattle.server_image.specs.{Image.ImageValue, Registry.RegistryValue}
 use Rattle.volap_cell.specs.{Cells.{CellValue, DeskOf, ImageOf, TheLedger, TheRegistry, desk_in, ledger_in, tag_of}, Commands.{MayCall, MayNoteEnd, once_shown}, ImageKinds.{IsBegun, IsFree, asks_registry, doing}, Planning.{HasLoadNext, next_job}, Values.{ActorValue, JobValue, StageValue, IsCalled, IsDeclined}, declared.command.Balance.Balance, declared.command.Command.Command, declared.command.Work.Work, declared.command.Work.TheVariants.{Insert, Query}, declared.role.Role.TheVariants.Session}
@@ -101,12 +101,14 @@ work_alone class.Settle = work_is.Settle 0
 work_alone (class.Page subject) = work_is.Page subject true false
 work_alone _ = work_is.Bare
 
--- an actor that does nothing makes a call that asks nothing of the registry; a pull is for a server that is there
-pub record CanNoteCalled (called : Call) (ledger : CellValue) (a : ActorValue) : Type 0 where
+-- an actor that does nothing makes a call that asks nothing of the registry; a pull is for a server that is there, and a group
+-- asks a question of the hierarchy
+pub record CanNoteCalled (h : List Dimension) (called : Call) (ledger : CellValue) (a : ActorValue) : Type 0 where
   pub free : IsFree a
   pub allowed : MayCall a.role called
   pub alone : asks_registry (class_of called) ≡ false
   pub server : (x : ℕ) → class_of called ≡ class.Sync x → x < a.setting.servers
+  pub valid : IsCallOf h called
   pub ledger_is : tag_of ledger ≡ TheLedger
 
 -- an administrator that does nothing, and has no spares, makes a call that asks the registry; it is told how many workers there are

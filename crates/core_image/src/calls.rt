@@ -18,7 +18,7 @@ use std::alloc::AllocError;
 use volap_cell::{Actor, Cell, Command, Work, ledger_in};
 
 /// Begins a command that asks nothing of the registry: a pull, a barrier, a settle, or a page of
-/// shards or of an audit. Room for all that it may still push is taken first, of the ledger's
+/// shards, of an audit or of groups. Room for all that it may still push is taken first, of the ledger's
 /// allocator.
 pub fn note_called(
     h: &Hierarchy,
@@ -28,7 +28,7 @@ pub fn note_called(
     call: &Call,
 ) -> Result<(), AllocError>
     requires here { IsHere h.now (held ledger_at (cell_of ledger.old) ∷ []) (actor_of actor.old) }
-    requires due { CanNoteCalled call.now (cell_of ledger.old) (actor_of actor.old) }
+    requires due { CanNoteCalled h.now call.now (cell_of ledger.old) (actor_of actor.old) }
     ensures made { OnOk result (Makes h.now Note (change ledger_at (cell_of ledger.old) (cell_of ledger.new) ∷ []) (actor_of actor.old) (actor_of actor.new)) }
     ensures told { OnOk result (Tells (called_by call.now) (actor_of actor.old) (cell_of ledger.old) (cell_of ledger.new)) }
     ensures refused { OnErr result ((ledger.new ≡ ledger.old) × (actor_of actor.new ≡ actor_of actor.old)) }
@@ -74,7 +74,7 @@ pub(crate) fn push_called(
     ensures ok { OnOk result (Notes (Called session call.now) (1 + owes work.now) 1 ledger.old ledger.new) }
     ensures err { OnErr result (ledger.new ≡ ledger.old) }
 {
-    let call = call.clone()?;
+    let call = call.copy(ledger.allocator())?;
     ledger.reserve(1 + owed(work))?;
     ledger.push(Event::Called { session, call });
     Ok(())

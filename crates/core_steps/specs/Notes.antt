@@ -19,7 +19,7 @@ note_places step = one_at ledger_cell
 abbrev pub note_asks : NoteStep → List Dimension → List (Option CellValue) → ActorValue → Type 0
 note_asks (note.Unknown dim) h (Some ledger ∷ _) a = CanNoteUnknown ledger a
 note_asks note.Refused h (Some ledger ∷ _) a = CanNoteRefused ledger a
-note_asks (note.Called call) h (Some ledger ∷ _) a = CanNoteCalled call.now ledger a
+note_asks (note.Called call) h (Some ledger ∷ _) a = CanNoteCalled h call.now ledger a
 note_asks (note.Asking call workers) h (Some registry ∷ Some ledger ∷ _) a = CanNoteAsking call.now workers registry ledger a
 note_asks (note.Ended how) h (Some ledger ∷ _) a = CanNoteEnded how ledger a
 note_asks note.Left h (Some ledger ∷ _) a = CanNoteLeft ledger a

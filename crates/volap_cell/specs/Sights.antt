@@ -1,10 +1,10 @@
 -- What a page must show: it is read off the whole state, by an actor beside which nobody is at work.
-use Rattle.std.specs.{List.AllZip, Prelude.{ℕ, ◌≡◌, ◌≢◌, ◌-◌, cond, false, List, [], ◌++◌, length, flat_map, Some, None}}
-use Rattle.dim_hierarchy.specs.declared.row.Row.{Row}
+use Rattle.std.specs.{List.AllZip, Prelude.{ℕ, ◌≡◌, ◌≢◌, ◌-◌, cond, false, List, [], ◌∷◌, ◌++◌, length, flat_map, Some, None}}
+use Rattle.dim_hierarchy.specs.declared.{filter.Pick.Pick, row.Row.Row}
 use Rattle.dc_node.specs.Summary.{coords}
 use Rattle.describing_set.specs.{DescSet.IsSetOf, declared.listing.Spot.Spot}
 use Rattle.measure_agg.specs.Aggregate.{agg}
-use Rattle.row_ledger.specs.{Pages.IsPageOf, declared.page.AuditLine.AuditLine, declared.page.Page.Page, declared.page.ShardLine.ShardLine, declared.page.TreePage.TreePage}
+use Rattle.row_ledger.specs.{Groups.{IsGroupPage, Question, question}, Pages.IsPageOf, declared.event.Event.Event, declared.event.Event.TheVariants.Called, declared.page.AuditLine.AuditLine, declared.page.GroupPage.GroupPage, declared.page.Page.Page, declared.page.ShardLine.ShardLine, declared.page.TreePage.TreePage, declared.settings.Call.TheVariants.Group}
 use Rattle.row_ledger.specs.declared.page.Page.TheVariants as page
 use Rattle.shard_build.specs.shard_store.specs.{Gate.root_entry, declared.gate.Phase.TheVariants.Gone}
 use Rattle.list_words.specs.Counts.{Each, times}
@@ -63,10 +63,27 @@ pub record SeesAudit (s : Setting) (v : View) (audit : AuditLine) : Type 0 where
   pub total : audit.agg ≡ agg (flat_map (λ rows. rows) parts)
   pub shards : audit.shards ≡ length v.registry.frontier
 
+-- the page of a question is that of the rows that the shards have which stand
+pub record HasGroups (q : Question) (s : Setting) (v : View) (shown : GroupPage) : Type 0 where
+  pub parts : List (List Row)
+  pub each : AllZip (HasAll s v) v.registry.frontier parts
+  pub is_page : IsGroupPage q (flat_map (λ rows. rows) parts) shown
+
+-- a page of groups is of the question that the newest event asks
+pub record SeesGroups (s : Setting) (v : View) (shown : GroupPage) : Type 0 where
+  pub session : ℕ
+  pub dim : ℕ
+  pub level : ℕ
+  pub filter : List Pick
+  pub past : List Event
+  pub called : v.history ≡ Called session (Group dim level filter) ∷ past
+  pub has : HasGroups (question s.hierarchy filter dim level) s v shown
+
 abbrev pub SeesPage : Setting → View → Page → Type 0
 SeesPage s v (page.Shards lines) = AllZip (SeesLine s v) v.registry.frontier lines
 SeesPage s v (page.Tree tree) = SeesTree s v tree
 SeesPage s v (page.Audit audit) = SeesAudit s v audit
+SeesPage s v (page.Group group) = SeesGroups s v group
 
 -- everyone else is idle, and the page is what the state has
 pub record Sees (s : Setting) (w : World) (n : ℕ) (shown : Page) : Type 0 where

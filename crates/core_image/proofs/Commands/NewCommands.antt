@@ -1,7 +1,7 @@
 -- What each command that is no insert and no query is as it begins.
 use Rattle.std.proofs.{Common.{◌≡◌, ◌≢◌, ℕ, ◌*◌, ◌<◌, ◌≤◌, List, [], ◌∷◌, Bool, true, false, length, Option, Some, None, refl, sym, ap, ◌∙◌, subst, arith, ◌&&◌, nat_lt, take, map, Any, option_map, option_and_then, is_some, ◌==◌, eqb-true, slice_get, ◌^◌, ◌-◌, ◌+◌}, lemmas.Bool.{and_parts, false≢true, ltb-true}, lemmas.List.length-map, lemmas.List.Elements.All-nil, lemmas.Nat.mul-le}
 use Rattle.cell_stock.specs.declared.purse.Spare.{Spare}
-use Rattle.row_ledger.specs.{Changes.ShardsStay, Classes.{class_of, is_there}, Kept.KeepsRight, Listings.places_of, Past.{before, call_at, call_in, has_page, work}, Shards.{frontier, is_live, comes_from, place}, Work.is_known, Workers.is_on, declared.class.Class.Class, declared.class.Subject.Subject, declared.event.Event.Event, declared.event.Event.TheVariants.Called, declared.settings.Call.Call}
+use Rattle.row_ledger.specs.{Changes.ShardsStay, Classes.{class_of, is_there}, Kept.KeepsRight, Listings.places_of, Past.{before, call_at, call_in, has_page, work}, Shards.{frontier, is_live, comes_from, place}, Work.is_known, Workers.is_on, declared.class.Class.Class, declared.class.Subject.Subject, declared.event.Event.Event, declared.event.Event.TheVariants.Called, declared.settings.Call.Call, declared.settings.Call.TheVariants.Barrier}
 use Rattle.row_ledger.specs.declared.class.Class.TheVariants as class_is
 use Rattle.row_ledger.specs.declared.class.Subject.TheVariants as subject
 use Rattle.row_ledger.proofs.{Changes.quiet, Descent.comes_from-self, Growth.KeepsRight-called, Positions.before-here}
@@ -39,17 +39,21 @@ module _ (s : Setting) (v : View) (g : Ghost) (i : InvWith s v g) (number : ℕ)
     abbrev e : Event
     e = Called number call
 
-    right : KeepsRight (site_in s) g.placed (e ∷ h)
-    right = KeepsRight-called (site_in s) g.placed h number call i.telling.right
+    -- whatever is called, a page or an action of its own doesn't stand before it
+    abbrev any : Event
+    any = Called number Barrier
+
+    right : KeepsRight (site_in s) g.placed (any ∷ h)
+    right = KeepsRight-called (site_in s) g.placed h number Barrier tt i.telling.right
 
     told : call_at (e ∷ h) of ≡ Some call
     told = new-told call_in e h
 
     pageless : has_page (e ∷ h) of ≡ false
-    pageless = new-pageless s e h g.placed right number refl
+    pageless = new-pageless s any h g.placed right number refl
 
     workless : work (e ∷ h) of ≡ []
-    workless = new-workless s e h g.placed right number refl
+    workless = new-workless s any h g.placed right number refl
 
     past : before (e ∷ h) of ≡ h
     past = before-here e h
@@ -182,6 +186,7 @@ module _ (s : Setting) (v : View) (g : Ghost) (i : InvWith s v g) (number : ℕ)
   alone-as call class_is.Bare class alone within workers r work job is = as-said (Called number call) _ _ is.0 is.1 (bare-begins call class)
   alone-as call (class_is.Page subject.Shards) class alone within workers r work job is = as-said (Called number call) _ _ is.0 is.1 (page-begins call subject.Shards true class refl)
   alone-as call (class_is.Page subject.Rows) class alone within workers r work job is = as-said (Called number call) _ _ is.0 is.1 (page-begins call subject.Rows true class refl)
+  alone-as call (class_is.Page subject.Groups) class alone within workers r work job is = as-said (Called number call) _ _ is.0 is.1 (page-begins call subject.Groups true class refl)
   alone-as call _ class alone within workers r work job is = absurd (false≢true (sym alone))
 
   pub alone-begins : (call : Call) → asks_registry (class_of call) ≡ false → ((x : ℕ) → class_of call ≡ class_is.Sync x → x < s.servers) → (workers : ℕ) (r : RegistryValue) (work : Work) (job : Option JobValue) → IsBegun workers r (class_of call) work job

@@ -3,7 +3,7 @@ use Rattle.std.proofs.{Common.{◌≡◌, ◌≢◌, ℕ, ◌+◌, ◌*◌, ◌<
 use Rattle.std.specs.Option.{option_map_or}
 use Rattle.cell_stock.specs.declared.purse.Spare.{Spare}
 use Rattle.dim_hierarchy.specs.declared.row.Row.{Row}
-use Rattle.row_ledger.specs.{Changes.ShardsStay, Past.{Insert, Query}, declared.event.Event.Event, declared.event.Event.TheVariants.Called, declared.settings.Call.Call}
+use Rattle.row_ledger.specs.{Changes.ShardsStay, Groups.IsCallOf, Past.{Insert, Query}, declared.event.Event.Event, declared.event.Event.TheVariants.Called, declared.settings.Call.Call}
 use Rattle.row_ledger.proofs.{Changes.quiet, Growth.KeepsRight-called}
 use Rattle.volap_cell.specs.{Commands.owes, Desking.is_on_desk, Falls.{BringsWork, control_of, gates_of_errand, gates_of_work, job_left, left, of_work, plenty}, Ghost.Ghost, ImageKinds.{IsFree, doing}, Invariant.InvWith, Kinds.Does, Owing.{Owing, is_insert_work}, Placing.NobodyAt, Setting.{Setting, actor_count, cell_count, site_in}, Steps.{HasSight, IsKept}, Telling.{IsProgress, Telling}, Values.{ActorValue, JobValue}, View.{View, view, row_at}, Working.IsBalancing, World.{World, Change, Agrees, after}, declared.command.Balance.Balance, declared.command.Command.Command, declared.command.Work.Work, declared.role.Role.Role}
 use Rattle.volap_cell.specs.declared.command.Work.TheVariants as work_is
@@ -25,7 +25,7 @@ pub record IsBeginning (s : Setting) (v : View) (g : Ghost) (h : List Event) (of
   pub control : control_of s work + job_left s v job ≤ most_control s
   pub gates : gates_of_work v.history work ≤ 2
 
-module _ (cs : List Change) (b : ActorValue) (s : Setting) (w : World) (n : ℕ) (g : Ghost) (i : InvWith s (view s w) g) (ag : Agrees w cs n (w.actors n)) (call : Call) (work : Work) (job : Option JobValue) (free : IsFree (w.actors n)) (there : n < actor_count s)
+module _ (cs : List Change) (b : ActorValue) (s : Setting) (w : World) (n : ℕ) (g : Ghost) (i : InvWith s (view s w) g) (ag : Agrees w cs n (w.actors n)) (call : Call) (valid : IsCallOf s.hierarchy call) (work : Work) (job : Option JobValue) (free : IsFree (w.actors n)) (there : n < actor_count s)
     (pushed : EventNew (view s (after w cs n b)) (view s w) (Called (w.actors n).number call) (1 + owes work) 1 b.seen) (few : length (Called (w.actors n).number call ∷ (view s w).history) + (view s (after w cs n b)).promised < 2 ^ 31)
     (viewed : view s (after w cs n b) ≡ renewed by_call (view s (after w cs n b)) (view s w))
     (is : IsBeginning s (view s w) g (Called (w.actors n).number call ∷ (view s w).history) (length (view s w).history) ((view s w).roles n) ((view s w).purses n) work job)
@@ -84,7 +84,7 @@ module _ (cs : List Change) (b : ActorValue) (s : Setting) (w : World) (n : ℕ)
         others = λ a ne. (begin.elsewhere a ne, new.elsewhere a ne, ap (λ (x : ActorValue). x.seen) (actor-off w.actors n b a ne));
         all_seen = ap (λ (x : ActorValue). x.seen) actor-now ∙ pushed.all_seen ∙ ap length pushed.history_is;
       })
-      (KeepsRight-called (site_in s) g.placed h (w.actors n).number call i.telling.right) i.telling
+      (KeepsRight-called (site_in s) g.placed h (w.actors n).number call valid i.telling.right) i.telling
       (ap Some (i.numbering.number n)) free.command
       (λ c has. let it : its ≡ c = (let both : ◌≡◌ {A = Option Command} (Some its) (Some c) = sym begin.is_there ∙ has in cc) in
       subst (λ (x : Command). (x.of ≡ length h) × IsProgress s (e ∷ h) x.of x.work (v2.jobs n) (v.roles n)) it

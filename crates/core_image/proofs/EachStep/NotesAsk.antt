@@ -1,10 +1,10 @@
 -- A command that asks the registry what stands is noted: that keeps the invariant.
-use Rattle.std.proofs.Common.{◌≡◌, ◌≢◌, ℕ, ◌+◌, List, [], ◌∷◌, true, length, Option, refl, sym, ap, ◌∙◌, subst}
+use Rattle.std.proofs.Common.{◌≡◌, ◌≢◌, ℕ, ◌+◌, List, [], ◌∷◌, true, false, length, Option, refl, sym, ap, ◌∙◌, subst}
 use Rattle.dim_hierarchy.specs.Dimension.{Dimension}
-use Rattle.row_ledger.specs.{Classes.class_of, LedgerValue.LedgerValue, declared.class.Class.Class, declared.event.Event.Event, declared.event.Event.TheVariants.Called, declared.settings.Call.Call}
+use Rattle.row_ledger.specs.{Classes.class_of, Groups.IsCallOf, LedgerValue.LedgerValue, declared.class.Class.Class, declared.event.Event.Event, declared.event.Event.TheVariants.Called, declared.settings.Call.Call, declared.settings.Call.TheVariants.{Sync, Split, Move, Balance, Barrier, Settle, Shards, Tree, Audit, Group}}
 use Rattle.row_ledger.specs.declared.class.Class.TheVariants as class_is
 use Rattle.server_image.specs.Registry.{RegistryValue}
-use Rattle.volap_cell.specs.{Cells.{CellValue, LedgerCell, RegistryCell, TheLedger, TheRegistry, tag_of}, Commands.owes, ImageKinds.{IsAsked, IsBegun, NotesCalled, OfCalledAsking, doing}, Setting.Setting, Steps.{Keeps, Makes}, Values.{ActorValue, JobValue}, View.{View, view}, World.{Change, Agrees, after, change}, declared.command.Work.Work}
+use Rattle.volap_cell.specs.{Cells.{CellValue, LedgerCell, RegistryCell, TheLedger, TheRegistry, tag_of}, Commands.owes, ImageKinds.{IsAsked, IsBegun, NotesCalled, OfCalledAsking, asks_registry, doing}, Setting.Setting, Steps.{Keeps, Makes}, Values.{ActorValue, JobValue}, View.{View, view}, World.{Change, Agrees, after, change}, declared.command.Work.Work}
 use Rattle.volap_cell.specs.declared.kind.Kind.TheVariants as kind
 use Rattle.volap_cell.proofs.{Cells.Past.ledger-past, Histories.Books.EventNew, Persons.has-role, Views.Books.view-note_asking, Views.Fields.pushed-new, Views.Shown.{held-ledger, held-registry}}
 use Rattle.core_image.specs.NotesDue.{BeginsAsking, CanNoteAsking, Notes}
@@ -16,6 +16,19 @@ record IsSoundAsk (l : Change) (a b : ActorValue) (registry : RegistryValue) (d 
   pub few : IsFew d.pushed
   pub spares : a.purse ≡ []
   pub begins : BeginsAsking a.setting.workers registry (class_of d.called) d.work d.job
+
+-- a group asks nothing of the registry
+asking-valid : (hs : List Dimension) (call : Call) → asks_registry (class_of call) ≡ true → IsCallOf hs call
+asking-valid hs (Group dim level filter) asks = absurd (let never : false ≡ true = asks in cc)
+asking-valid hs (Sync server) asks = tt
+asking-valid hs (Split shard) asks = tt
+asking-valid hs (Move shard worker) asks = tt
+asking-valid hs (Balance _) asks = tt
+asking-valid hs Barrier asks = tt
+asking-valid hs Settle asks = tt
+asking-valid hs Shards asks = tt
+asking-valid hs (Tree shard) asks = tt
+asking-valid hs Audit asks = tt
 
 asking-keeps : (hierarchy : List Dimension) (registry : RegistryValue) (c l : Change) (a b : ActorValue) (asked : IsAsked registry c) (d : NotesCalled registry true l a b) → IsSoundAsk l a b registry d
     → Keeps hierarchy kind.Note (c ∷ l ∷ []) a b (OfCalledAsking registry asked d)
@@ -31,7 +44,7 @@ asking-keeps hierarchy registry c l a b asked d sound s w n g i_same i ag sight 
     let ledger-was : (v.history ≡ x.pushed.ledger.history) × (v.promised ≡ x.pushed.ledger.promised) = held-ledger s w i.numbering.tag l.number x.pushed.ledger (agrees.cells.1.0 ∙ x.pushed.was) in
     let registry-was : v.registry ≡ registry = held-registry s w i.numbering.tag c.number registry (agrees.cells.0 ∙ asked.was) in
     let about : (w.actors n).setting ≡ s = i.numbering.about n in
-    call-kept (c ∷ l ∷ []) b s w n g i agrees x.called x.work x.job x.free (has-role s v i.numbering n (caller-there (v.roles n) x.called x.allowed s.workers)) pushed
+    call-kept (c ∷ l ∷ []) b s w n g i agrees x.called (asking-valid s.hierarchy x.called x.asks_is) x.work x.job x.free (has-role s v i.numbering n (caller-there (v.roles n) x.called x.allowed s.workers)) pushed
     (few-pushed x.pushed v.history v.promised (view s (after w (c ∷ l ∷ []) n b)).promised ledger-was.0 ledger-was.1 pushed.promised_is here.1.few)
     (view-note_asking s w n registry true c l (w.actors n) b agrees asked x)
     (asking-begins s v g i (w.actors n).number (v.roles n) (v.purses n) x.called x.asks_is registry registry-was (asker-admin (v.roles n) x.called x.allowed x.asks_is) here.1.spares x.work x.job

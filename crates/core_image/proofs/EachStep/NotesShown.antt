@@ -72,13 +72,13 @@ as-called (Called session c) d is = (let same : c ≡ d = cc in (session, ap (λ
 as-called _ d is = absurd (let never : ◌≡◌ {A = Option Call} None (Some d) = is in cc)
 
 -- the newest event is its beginning
-record IsNewest (h : List Event) (of : ℕ) (c : Call) : Type 0 where
+pub record IsNewest (h : List Event) (of : ℕ) (c : Call) : Type 0 where
   pub session : ℕ
   pub past : List Event
   pub is : h ≡ Called session c ∷ past
   pub at : length past ≡ of
 
-newest-call : (h : List Event) (of : ℕ) (c : Call) → length h ≡ of + 1 → call_at h of ≡ Some c → IsNewest h of c
+pub newest-call : (h : List Event) (of : ℕ) (c : Call) → length h ≡ of + 1 → call_at h of ≡ Some c → IsNewest h of c
 newest-call [] of c long is = absurd (omega (arith, long))
 newest-call (e ∷ past) of c long is =
     let at : length past ≡ of = omega (arith, long) in
@@ -218,8 +218,9 @@ module _ (shown : Page) (l : Change) (b : ActorValue) (s : Setting) (w : World) 
     asked = is.calls.2;
     next = ap length newest.is ∙ (let at = newest.at in omega (arith, at));
     alone = subst (λ (past : List Event). IsTrue (is_idle past)) (sym behind) (begun-all (is_over newest.past) newest.past over-then);
-    shown = subst (λ (past : List Event). IsShown (site_in s) past shown) (sym behind)
-        (shown-before (site_in s) newest.session is.calls.0 newest.past shown (subst (λ (past : List Event). IsShown (site_in s) past shown) newest.is (page-shown s w g i settled shown sees.page)));
+    shown = subst (λ (past : List Event). IsShown (site_in s) past is.calls.0 shown) (sym behind)
+        (shown-before (site_in s) newest.session is.calls.0 newest.past shown
+        (subst (λ (past : List Event). IsShown (site_in s) past is.calls.0 shown) newest.is (page-shown s w g i settled newest.session is.calls.0 newest.past newest.is shown sees.page)));
   })
 
   -- Parts.

@@ -1,17 +1,16 @@
 -- What a page tells that is read off a state in which all rows that have passed a gate are acknowledged: it may be shown.
-use Rattle.std.proofs.{Common.{◌≡◌, ◌≢◌, ℕ, ◌≤◌, List, [], ◌∷◌, ◌++◌, Bool, true, false, cond, eqb, length, map, refl, sym, ap, ◌∙◌, subst, arith, inl, inr, All, Contains, IsTrue, eqb-true}, lemmas.Bool.{cases_lt, eqb-false}, lemmas.Bool.Decides.nat_tests, lemmas.List.{length-map, length-append}, lemmas.List.Elements.{All-contains, All-contains_itself, All-weaker, Contains-append_cases, Contains-append_right}, lemmas.List.Sorted.{All-permutation, IsPermutation-cons, IsPermutation-map, IsPermutation-refl, IsPermutation-remove, IsPermutation-sym, IsPermutation-trans}}
-use Rattle.std.specs.{List.{AllByRecursion, AllZip, IsDistinct, filter, remove}, Prelude.{nat_eq, IsPermutation, flat_map}}
+use Rattle.std.proofs.{Common.{◌≡◌, ◌≢◌, ℕ, ◌≤◌, List, [], ◌∷◌, ◌++◌, Bool, true, false, cond, eqb, length, map, refl, sym, ap, ◌∙◌, subst, arith, inl, inr, All, Contains, IsTrue, eqb-true}, lemmas.Bool.{cases_lt, eqb-false}, lemmas.Bool.Decides.nat_tests, lemmas.List.{length-map, length-append, map-append}, lemmas.List.Elements.{All-contains, All-contains_itself, All-weaker, Contains-append_cases, Contains-append_right}}
+use Rattle.std.specs.{List.{AllByRecursion, AllZip, IsDistinct, filter}, Prelude.{nat_eq, IsPermutation, flat_map}}
 use Rattle.dim_hierarchy.specs.declared.row.Row.{Row}
 use Rattle.describing_set.specs.declared.listing.Spot.{Spot}
 use Rattle.measure_agg.proofs.AggLaws.{agg-IsPermutation}
-use Rattle.row_ledger.specs.{Listings.places_of, Pages.{AreShownShards, IsPageOf, IsShardLine, IsShown, IsShownAudit, IsShownTree, places_shown}, Past.{Ack, acked, acked_into, acked_rows, ends_with, last_of}, Right.{EachEvent, Stands}, Shards.{comes_from, place}, Site.Site, declared.event.Event.Event, declared.event.Event.TheVariants.Called, declared.page.AuditLine.AuditLine, declared.page.Page.Page, declared.page.ShardLine.ShardLine, declared.page.TreePage.TreePage, declared.settings.Call.Call}
+use Rattle.row_ledger.specs.{Groups.{IsGroupPage, Question, question}, Listings.places_of, Pages.{AreShownShards, IsPageOf, IsShardLine, IsShown, IsShownAudit, IsShownGroup, IsShownTree, places_shown}, Past.{Ack, acked, acked_into, acked_rows, ends_with, last_of}, Right.{EachEvent, Stands}, Shards.{comes_from, place}, Site.Site, declared.event.Event.Event, declared.event.Event.TheVariants.Called, declared.page.AuditLine.AuditLine, declared.page.GroupPage.GroupPage, declared.page.Page.Page, declared.page.ShardLine.ShardLine, declared.page.TreePage.TreePage, declared.settings.Call.Call, declared.settings.Call.TheVariants.{Sync, Split, Move, Balance, Barrier, Settle, Shards, Tree, Audit, Group}}
 use Rattle.row_ledger.specs.declared.page.Page.TheVariants as page
-use Rattle.row_ledger.proofs.{Descent.{live-last, live-made}, Ended.acked-distinct}
-use Rattle.list_words.proofs.{Elements.{Contains-filtered, Contains-map, Contains-mapped, Contains-nil, IsTrue-filtered, Contains-first}, Times.{length-le, same_is, same_not}, Truth.on_bool}
+use Rattle.row_ledger.proofs.{Descent.{live-last, live-made}, Ended.acked-distinct, Grouping.{IsShuffled, groups-shuffled, matching-shuffled, shuffled-permutes}}
+use Rattle.list_words.proofs.{Elements.{Contains-filtered, Contains-map, Contains-mapped, Contains-nil, IsTrue-filtered, Contains-first}, Times.{length-le, same_is, same_not, split-at, times-split}, Truth.on_bool}
 use Rattle.list_words.specs.Counts.{Each, same, times}
 use Rattle.volap_cell.specs.tree_shape.specs.Shape.{numbers}
-use Rattle.volap_cell.specs.tree_shape.proofs.Cutting.Parts.{total-permuted}
-use Rattle.volap_cell.specs.{Ghost.Ghost, Invariant.InvWith, Setting.{Setting, site_in}, Sights.{HasAll, HasRows, SeesAudit, SeesLine, SeesPage}, View.{View, view, row_at}, World.World}
+use Rattle.volap_cell.specs.{Ghost.Ghost, Invariant.InvWith, Setting.{Setting, site_in}, Sights.{HasAll, HasGroups, HasRows, SeesAudit, SeesGroups, SeesLine, SeesPage}, View.{View, view, row_at}, World.World}
 use Rattle.core_image.proofs.{Answered.distinct-once, Images.Valid.acked-placed, Pages.RowsDivided.{count-parts, count-rows, home-once, its-gate}}
 
 -- Rows and their numbers.
@@ -38,33 +37,33 @@ row-of (x ∷ rows) n some = on_bool (eqb n x.no)
     let later = row-of rows n (omega (arith, some, none)) in
     (later.0, Contains-append_right (x ∷ []) rows later.0 later.1, later.2))
 
--- a row that is in a list, and the others
-record IsTaken (ys : List Row) (x : Row) : Type 0 where
-  rest : List Row
-  moved : IsPermutation ys (x ∷ rest)
+-- the rows of numbers in another order
+shuffled-numbers : (row : ℕ → Row) (ns ms : List ℕ) → ((n : ℕ) → times n ns ≡ times n ms) → IsShuffled (map row ns) (map row ms)
+shuffled-numbers row [] [] alike = refl
+shuffled-numbers row [] (m ∷ ms) alike = let a = alike m in let one = same_is m m refl in absurd (omega (arith, a, one))
+shuffled-numbers row (n ∷ ns) ms alike =
+    let a = alike n in
+    let one = same_is n n refl in
+    let w = split-at n ms (omega (arith, a, one)) in
+    let rest : (r : ℕ) → times r ns ≡ times r (w.front ++ w.back) = λ r. (let x = alike r in let y = ap (times r) w.is in let z = times-split n r w.front w.back in omega (arith, x, y, z)) in (
+      map row w.front,
+      map row w.back,
+      ap (map row) w.is ∙ map-append row w.front (n ∷ w.back),
+      subst (IsShuffled (map row ns)) (map-append row w.front w.back) (shuffled-numbers row ns (w.front ++ w.back) rest),
+    )
 
-taken-out : (ys : List Row) (x : Row) → Contains ys x → IsTaken ys x
-taken-out ys x (k, within, is) = record { rest = remove ys k; moved = IsPermutation-remove ys k x within (sym is) }
+numbered : (row : ℕ → Row) (xs : List Row) → ((r : Row) → Contains xs r → row r.no ≡ r) → map row (numbers xs) ≡ xs
+numbered row [] named = refl
+numbered row (x ∷ xs) named =
+    let here = named x (0, omega arith, refl) in
+    let rest = numbered row xs (λ r has. named r (Contains-append_right (x ∷ []) xs r has)) in
+    λ k. here k ∷ rest k
 
 -- lists of the same numbers have the same rows, where each row is the one of its number
-same-rows : (row : ℕ → Row) (xs ys : List Row) → ((r : Row) → Contains xs r → row r.no ≡ r) → ((r : Row) → Contains ys r → row r.no ≡ r) → ((n : ℕ) → times n (numbers xs) ≡ times n (numbers ys)) → IsPermutation xs ys
-same-rows row [] [] named named_ys alike = IsPermutation-refl []
-same-rows row [] (y ∷ ys) named named_ys alike = (let a = alike y.no in let one = same_is y.no y.no refl in absurd (omega (arith, a, one)))
-same-rows row (x ∷ xs) ys named named_ys alike =
-    let a = alike x.no in
-    let one = same_is x.no x.no refl in
-    let found = row-of ys x.no (omega (arith, a, one)) in
-    let is : found.0 ≡ x = sym (named_ys found.0 found.1) ∙ ap row found.2 ∙ named x (0, omega arith, refl) in
-    without (taken-out ys x (subst (Contains ys) is found.1)) (λ rest names alike_rest. same-rows row xs rest (λ r has. named r (Contains-append_right (x ∷ []) xs r has)) names alike_rest) named_ys alike
-  where
-    without : IsTaken ys x → ((rest : List Row) → ((r : Row) → Contains rest r → row r.no ≡ r) → ((n : ℕ) → times n (numbers xs) ≡ times n (numbers rest)) → IsPermutation xs rest)
-        → ((r : Row) → Contains ys r → row r.no ≡ r) → ((n : ℕ) → times n (numbers (x ∷ xs)) ≡ times n (numbers ys)) → IsPermutation (x ∷ xs) ys
-    without t others names same_numbers =
-        let counted : (n : ℕ) → times n (numbers (x ∷ t.rest)) ≡ times n (numbers ys) = λ n. total-permuted (same n) (numbers ys) (numbers (x ∷ t.rest)) (IsPermutation-map (λ (y : Row). y.no) ys (x ∷ t.rest) t.moved) in
-        let back : (r : Row) → Contains t.rest r → Contains ys r =
-        λ r has. All-contains (Contains ys) (x ∷ t.rest) r (All-permutation (Contains ys) ys (x ∷ t.rest) t.moved (All-contains_itself ys)) (Contains-append_right (x ∷ []) t.rest r has) in
-        let rest = others t.rest (λ r has. names r (back r has)) (λ n. let both = same_numbers n in let fewer = counted n in omega (arith, both, fewer)) in
-        IsPermutation-trans (x ∷ xs) (x ∷ t.rest) ys (IsPermutation-cons x xs t.rest rest) (IsPermutation-sym ys (x ∷ t.rest) t.moved)
+same-rows : (row : ℕ → Row) (xs ys : List Row) → ((r : Row) → Contains xs r → row r.no ≡ r) → ((r : Row) → Contains ys r → row r.no ≡ r) → ((n : ℕ) → times n (numbers xs) ≡ times n (numbers ys)) → IsShuffled xs ys
+same-rows row xs ys named named_ys alike =
+    subst (λ (l : List Row). IsShuffled l ys) (numbered row xs named)
+    (subst (IsShuffled (map row (numbers xs))) (numbered row ys named_ys) (shuffled-numbers row (numbers xs) (numbers ys) alike))
 
 -- numbers that differ stand in a list once at most
 
@@ -244,13 +243,16 @@ module _ (s : Setting) (w : World) (g : Ghost) (i : InvWith s (view s w) g) (set
       let from = Contains-mapped (λ (a : Ack). a.row) (acked h) r c in
       subst (λ (y : Row). v.row y.no ≡ y) from.2 (acked-placed s w g i from.0 from.1).1
 
-  divided : (parts : List (List Row)) → AllZip (HasAll s v) v.registry.frontier parts → IsPermutation (acked_rows h) (flat_map (λ rows. rows) parts)
+  divided : (parts : List (List Row)) → AllZip (HasAll s v) v.registry.frontier parts → IsShuffled (acked_rows h) (flat_map (λ rows. rows) parts)
   divided parts all = same-rows v.row (acked_rows h) (flat_map (λ rows. rows) parts) named-acked (named-parts v.registry.frontier parts all)
       (λ n. count-acked n ∙ (on_bool (g.placed n) (λ q. (rw q (sym (home-once s w g i n q)))) (λ q. rw q refl)) ∙ sym (count-parts s w g i v.registry.frontier parts all n))
 
+  permuted : (parts : List (List Row)) → AllZip (HasAll s v) v.registry.frontier parts → IsPermutation (acked_rows h) (flat_map (λ rows. rows) parts)
+  permuted parts all = shuffled-permutes (acked_rows h) (flat_map (λ rows. rows) parts) (divided parts all)
+
   audit-shown : (audit : AuditLine) → SeesAudit s v audit → IsShownAudit (site_in s) h audit
   audit-shown audit sees = record {
-    total = sees.total ∙ sym (agg-IsPermutation (acked_rows h) (flat_map (λ rows. rows) sees.parts) (divided sees.parts sees.each));
+    total = sees.total ∙ sym (agg-IsPermutation (acked_rows h) (flat_map (λ rows. rows) sees.parts) (permuted sees.parts sees.each));
     count = sees.shards ∙ sym (length-map v.registry.frontier (λ (spot : Spot). place spot.shard spot.worker)) ∙ ap length i.lineage.front;
   }
 
@@ -283,12 +285,27 @@ module _ (s : Setting) (w : World) (g : Ghost) (i : InvWith s (view s w) g) (set
   shards-shown : (lines : List ShardLine) → AllZip (SeesLine s v) v.registry.frontier lines → AreShownShards (site_in s) h lines
   shards-shown lines all =
       let (places, (parts, has, shown)) = lines-shown v.registry.frontier lines all in
-      record { places = places ∙ i.lineage.front; parts = parts; each = shown; divided = divided parts has }
+      record { places = places ∙ i.lineage.front; parts = parts; each = shown; divided = permuted parts has }
 
-  pub page-shown : (shown : Page) → SeesPage s v shown → IsShown (site_in s) h shown
-  page-shown (page.Shards lines) sees = shards-shown lines sees
-  page-shown (page.Tree tree) sees = tree-shown tree.shard sees.tree sees.queue sees.has tree refl sees.is_page
-  page-shown (page.Audit audit) sees = audit-shown audit sees
+  pub groups-shown : (q : Question) (group : GroupPage) → HasGroups q s v group → IsGroupPage q (acked_rows h) group
+  groups-shown q group has =
+      let rows = flat_map (λ rows. rows) has.parts in
+      let moved = divided has.parts has.each in
+      record { lines = has.is_page.lines ∙ sym (groups-shuffled q (acked_rows h) rows moved); all = has.is_page.all ∙ sym (matching-shuffled q (acked_rows h) rows moved) }
+
+  -- the newest event calls for the page
+  module _ (session : ℕ) (call : Call) (past : List Event) (newest : h ≡ Called session call ∷ past) where
+    group-shown : (group : GroupPage) → SeesGroups s v group → IsShownGroup (site_in s) h call group
+    group-shown group sees =
+        let both : Called session call ∷ past ≡ Called sees.session (Group sees.dim sees.level sees.filter) ∷ sees.past = sym newest ∙ sees.called in
+        let is : Group sees.dim sees.level sees.filter ≡ call = cc in
+        subst (λ (c : Call). IsShownGroup (site_in s) h c group) is (groups-shown (question s.hierarchy sees.filter sees.dim sees.level) group sees.has)
+
+    pub page-shown : (shown : Page) → SeesPage s v shown → IsShown (site_in s) h call shown
+    page-shown (page.Shards lines) sees = shards-shown lines sees
+    page-shown (page.Tree tree) sees = tree-shown tree.shard sees.tree sees.queue sees.has tree refl sees.is_page
+    page-shown (page.Audit audit) sees = audit-shown audit sees
+    page-shown (page.Group group) sees = group-shown group sees
 
 -- Behind the beginning of its command a page tells what it told before it.
 
@@ -299,8 +316,21 @@ lines-before site session call past (line ∷ lines) [] all = absurd all
 lines-before site session call past (line ∷ lines) (part ∷ parts) all =
     let i = all.0 in (record { count = i.count; set = i.set; came = i.came }, lines-before site session call past lines parts all.1)
 
-pub shown-before : (site : Site) (session : ℕ) (call : Call) (past : List Event) (shown : Page) → IsShown site (Called session call ∷ past) shown → IsShown site past shown
+group-before : (site : Site) (session : ℕ) (its call : Call) (past : List Event) (group : GroupPage) → IsShownGroup site (Called session its ∷ past) call group → IsShownGroup site past call group
+group-before site session its (Group dim level filter) past group i = record { lines = i.lines; all = i.all }
+group-before site session its (Sync server) past group i = absurd i
+group-before site session its (Split shard) past group i = absurd i
+group-before site session its (Move shard worker) past group i = absurd i
+group-before site session its (Balance _) past group i = absurd i
+group-before site session its Barrier past group i = absurd i
+group-before site session its Settle past group i = absurd i
+group-before site session its Shards past group i = absurd i
+group-before site session its (Tree shard) past group i = absurd i
+group-before site session its Audit past group i = absurd i
+
+pub shown-before : (site : Site) (session : ℕ) (call : Call) (past : List Event) (shown : Page) → IsShown site (Called session call ∷ past) call shown → IsShown site past call shown
 shown-before site session call past (page.Shards lines) i = record { places = i.places; parts = i.parts; each = lines-before site session call past lines i.parts i.each; divided = i.divided }
 shown-before site session call past (page.Tree tree) i =
     record { tree = i.tree; queue = i.queue; is_page = i.is_page; once = i.once; allowed = i.allowed; known = i.known; least = i.least; most = i.most }
 shown-before site session call past (page.Audit audit) i = record { total = i.total; count = i.count }
+shown-before site session call past (page.Group group) i = group-before site session call call past group i
