@@ -5,7 +5,7 @@ use Rattle.dc_node.specs.Summary.{coords}
 use Rattle.describing_set.specs.{DescSet.IsSetOf, declared.set.DescSet.DescSet}
 use Rattle.measure_agg.specs.Aggregate.{Aggregate}
 use Rattle.group_answer.specs.{Adding.{IsAdded, with_line}, Groups.Question, Telling.{IsNarrow, IsOfAll, IsTold}}
-use Rattle.group_answer.specs.declared.page.GroupLine.{GroupLine}
+use Rattle.row_ledger.specs.declared.page.GroupLine.{GroupLine}
 use Rattle.group_answer.specs.declared.told.Told.{Told}
 use Rattle.group_answer.specs.declared.told.Told.TheVariants.{NoRow, Under, Unknown}
 use Rattle.group_answer.proofs.RowSteps.{rows-out, rows-under}

@@ -1,10 +1,12 @@
 -- Lines as an aggregate is added.
 use Rattle.std.proofs.{Common.{ℕ, zero, suc, ◌≡◌, ◌≢◌, ◌+◌, ◌<◌, ◌≤◌, ◌⊎◌, true, false, nat_lt, nat_eq, List, [], ◌∷◌, ◌++◌, length, take, drop, get_or, set, refl, sym, ap, ◌∙◌, subst, arith, inl, inr}, lemmas.Bool.{cases_lt, Decides.nat_tests}, lemmas.List.{drop_all, drop_more, get_or_default, set_split}, lemmas.Option.slice_get-get_or}
-use Rattle.std.specs.{List.insert, Prelude.IfSome}
+use Rattle.std.specs.{List.insert, Ordering.{is_lt, nat_cmp}, Prelude.{IfSome, Some, slice_get}}
+use Rattle.describing_set.specs.{Ascending.with_id, Sorted.{Ascends, Below}}
+use Rattle.describing_set.proofs.Sorted.{Ascends-with_id, with_id-after, with_id-before, with_id-here}
 use Rattle.measure_agg.specs.{Aggregate.{Aggregate}, Joining.join}
 use Rattle.measure_agg.proofs.AggLaws.{join_associative, join_commutative}
-use Rattle.group_answer.specs.{Adding.{IsPlaceOf, with_line}, Groups.{all_of, line}}
-use Rattle.group_answer.specs.declared.page.GroupLine.{GroupLine}
+use Rattle.group_answer.specs.{Adding.{IsPlaceOf, concepts_in, with_line}, Groups.{all_of, line}}
+use Rattle.row_ledger.specs.declared.page.GroupLine.{GroupLine}
 
 is_less : (x y : ℕ) → x < y → nat_lt x y ≡ true
 is_less x y h = grind (arith, nat_tests)
@@ -17,6 +19,13 @@ is_equal x y h = grind (arith, nat_tests)
 
 not_equal : (x y : ℕ) → y < x → nat_eq x y ≡ false
 not_equal x y h = grind (arith, nat_tests)
+
+-- by the test of the code
+pub lower : (x y : ℕ) → is_lt (nat_cmp x y) ≡ true → x < y
+lower x y h = grind (arith, nat_tests)
+
+pub not-lower : (x y : ℕ) → is_lt (nat_cmp x y) ≡ false → y ≤ x
+not-lower x y h = grind (arith, nat_tests)
 
 three_ways : (x y : ℕ) → (x < y) ⊎ ((x ≡ y) ⊎ (y < x))
 three_ways x y = grind arith
@@ -42,6 +51,36 @@ line-cases P id total x xs before here after = elim (three_ways id x.id) [
     | inr h ↦ subst P (sym (line-after id total x xs h)) (after h)
   ]
 ]
+
+-- the concepts of the lines ascend
+
+concepts-with_line : (id : ℕ) (total : Aggregate) (xs : List GroupLine) → concepts_in (with_line id total xs) ≡ with_id id (concepts_in xs)
+concepts-with_line id total [] = refl
+concepts-with_line id total (x ∷ xs) = line-cases (λ (l : List GroupLine). concepts_in l ≡ with_id id (concepts_in (x ∷ xs))) id total x xs
+    (λ h. sym (with_id-before id x.id (concepts_in xs) h))
+    (λ h. ap (λ (n : ℕ). n ∷ concepts_in xs) h ∙ sym (with_id-here id x.id (concepts_in xs) h))
+    (λ h. ap (λ (l : List ℕ). x.id ∷ l) (concepts-with_line id total xs) ∙ sym (with_id-after id x.id (concepts_in xs) h))
+
+pub ascends-with_line : (id : ℕ) (total : Aggregate) (xs : List GroupLine) → Ascends (concepts_in xs) → Ascends (concepts_in (with_line id total xs))
+ascends-with_line id total xs a = subst Ascends (sym (concepts-with_line id total xs)) (Ascends-with_id id (concepts_in xs) a)
+
+below-get : (b : ℕ) (ys : List GroupLine) (n : ℕ) (x : GroupLine) → Below b (concepts_in ys) → n < length ys → x ≡ get_or ys n x → b < x.id
+below-get b [] n x w lt is = absurd (omega (arith, lt))
+below-get b (y ∷ ys) zero x w lt is = let low = w.0 in omega (arith, low, ap (λ (z : GroupLine). z.id) is)
+below-get b (y ∷ ys) (suc n) x w lt is = below-get b ys n x w.1 (omega (arith, lt)) is
+
+-- the lines up to one of a lower concept stay where they are
+pub front-behind : (id : ℕ) (lines : List GroupLine) (n : ℕ) (x : GroupLine) → Ascends (concepts_in lines) → n < length lines → x ≡ get_or lines n x → x.id < id
+    → (total : Aggregate) → with_line id total lines ≡ take (suc n) lines ++ with_line id total (drop (suc n) lines)
+front-behind id [] n x a lt is low total = absurd (omega (arith, lt))
+front-behind id (y ∷ ys) zero x a lt is low total = line-after id total y ys (omega (arith, low, ap (λ (z : GroupLine). z.id) is))
+front-behind id (y ∷ ys) (suc n) x a lt is low total =
+    let first : y.id < id = (let below = below-get y.id ys n x a.0 (omega (arith, lt)) is in omega (arith, below, low)) in
+    line-after id total y ys first ∙ ap (λ (l : List GroupLine). y ∷ l) (front-behind id ys n x a.1 (omega (arith, lt)) is low total)
+
+-- the place is not before a line of no lower concept
+pub next-here : (id : ℕ) (lines : List GroupLine) (n : ℕ) (x : GroupLine) → n < length lines → x ≡ get_or lines n x → id ≤ x.id → IfSome (slice_get lines n) (λ (y : GroupLine). id ≤ y.id)
+next-here id lines n x lt is le = subst (λ o. IfSome o (λ (y : GroupLine). id ≤ y.id)) (sym (slice_get-get_or lines n x lt ∙ ap Some (sym is))) le
 
 -- all lines together
 

@@ -1,7 +1,7 @@
 -- Lists in another order, joined.
 use Rattle.std.proofs.{Common.{◌≡◌, List, [], ◌∷◌, ◌++◌, length, refl, sym, ap, ◌∙◌, subst, append_assoc}, lemmas.List.append-nil, lemmas.List.Sorted.length_permutation}
 use Rattle.dim_hierarchy.specs.declared.row.Row.{Row}
-use Rattle.group_answer.proofs.Grouped.{IsShuffled, shuffled-permutes, shuffled-same}
+use Rattle.row_ledger.proofs.Grouping.{IsShuffled, shuffled-permutes, shuffled-same}
 
 pub shuffled-comm : (xs ys : List Row) → IsShuffled (xs ++ ys) (ys ++ xs)
 shuffled-comm [] ys = subst (IsShuffled ys) (sym (append-nil ys)) (shuffled-same ys)

@@ -6,7 +6,7 @@ use Rattle.list_words.proofs.Truth.{on_bool}
 use Rattle.measure_agg.specs.{Aggregate.{Aggregate, agg}, Joining.{join, one}}
 use Rattle.measure_agg.proofs.AggLaws.{agg-append, agg-one}
 use Rattle.group_answer.specs.{Adding.{with_line, with_row, with_rows}, Groups.{Question, all_of, concept_of}, Telling.AreUnder}
-use Rattle.group_answer.specs.declared.page.GroupLine.{GroupLine}
+use Rattle.row_ledger.specs.declared.page.GroupLine.{GroupLine}
 use Rattle.group_answer.proofs.LineSteps.{all-with_line, line-twice}
 
 module _ (q : Question) where

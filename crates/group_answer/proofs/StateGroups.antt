@@ -12,13 +12,14 @@ use Rattle.measure_agg.specs.Aggregate.{Aggregate}
 use Rattle.measure_agg.proofs.AggLaws.{agg-IsPermutation}
 use Rattle.core_pages.specs.shard_store.specs.{Gate.root_entry, declared.gate.Gate.Gate}
 use Rattle.core_pages.specs.tree_shape.specs.{PageLines.{CellBlocks, group_entries}, Shape.{Shape, Table}}
-use Rattle.core_pages.specs.volap_cell.specs.{Cells.{CellValue, queue_in}, Ghost.Ghost, Growing.table_of, Invariant.InvWith, Setting.{Setting, cell_count}, Sights.{HasAll, HasRows, blocks_seen}, Steps.Inv, View.{View, view}, World.World}
+use Rattle.core_pages.specs.volap_cell.specs.{Cells.{CellValue, queue_in}, Ghost.Ghost, Growing.table_of, Invariant.InvWith, Setting.{Setting, cell_count}, Sights.{HasAll, HasGroups, HasRows, blocks_seen}, Steps.Inv, View.{View, view}, World.World}
 use Rattle.core_pages.specs.{Looks.{IsSeenOf, IsValid, StateValue, blocks_of, cells_in, gate_in}, Seen.{CanSee, IsQuietIn}, Shards.{frontier_in, gate_place}, Still.IsStill}
 use Rattle.core_pages.proofs.{AnyShape.same-placed, Counts.{IsEntry, entries-ok, named-ok, root-ok, rows-ok}, Listing.rows_at as listed_at, Numbers.perm-rows, StateLines.{IsThere, all-there, at, can, each-at, place-is}, StateTrees.{as-read, has-gate, queue-is, still, tall}}
 use Rattle.core_pages.specs.core_image.proofs.Pages.RowsDivided.{few-rows}
-use Rattle.group_answer.specs.{Adding.with_rows, Groups.{IsGroupPage, Question, all_of}, Reading.{AreSummed, IsReadable, IsSummed, rows_at, rows_of, rows_of_spot, rows_of_spots}, Seen.{AreGroupsIn, HasCountIn, SeesGroups}}
-use Rattle.group_answer.specs.declared.page.{GroupLine.GroupLine, GroupPage.GroupPage}
-use Rattle.group_answer.proofs.{Grouped.{IsShuffled, all-groups, grouped, groups-shuffled, matching-shuffled}, Orders.{shuffled-append, shuffled-comm, shuffled-length}, RowSteps.rows-few}
+use Rattle.group_answer.specs.{Adding.with_rows, Groups.{IsGroupPage, Question, all_of}, Reading.{AreSummed, IsReadable, IsSummed, rows_at, rows_of, rows_of_spot, rows_of_spots}, Seen.{AreGroupsIn, HasCountIn}}
+use Rattle.row_ledger.specs.declared.page.{GroupLine.GroupLine, GroupPage.GroupPage}
+use Rattle.row_ledger.proofs.Grouping.{IsShuffled, groups-shuffled, matching-shuffled}
+use Rattle.group_answer.proofs.{Grouped.{all-groups, grouped}, Orders.{shuffled-append, shuffled-comm, shuffled-length}, RowSteps.rows-few}
 
 -- the rows beneath an entry are those that its groups of leaves have
 listed-same : (blocks : CellBlocks) (level : ℕ) (e : Entry) → rows_at blocks level e ≡ listed_at blocks level e
@@ -133,7 +134,7 @@ module _ (s : Setting) (w : World) (ghost : Ghost) (inv : InvWith s (view s w) g
       let same = shuffled-length (rows_of_spots s.servers (cell_count s) w.cells v.registry.frontier) (flat_map (λ rows. rows) reads.parts) reads.moved in
       omega (arith, few, short, same)
 
-  sees : (q : Question) (page : GroupPage) → IsGroupPage q (rows_of_spots s.servers (cell_count s) w.cells v.registry.frontier) page → SeesGroups q s v page
+  sees : (q : Question) (page : GroupPage) → IsGroupPage q (rows_of_spots s.servers (cell_count s) w.cells v.registry.frontier) page → HasGroups q s v page
   sees q page is =
       let xs = rows_of_spots s.servers (cell_count s) w.cells v.registry.frontier in
       let ys = flat_map (λ rows. rows) reads.parts in

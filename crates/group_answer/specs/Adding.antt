@@ -1,11 +1,18 @@
 -- Lines as rows are added one after the other.
-use Rattle.std.specs.Prelude.{ℕ, ◌≡◌, ◌==◌, ◌≤◌, nat_lt, if◌then◌else◌, Bool, true, false, List, [], ◌∷◌, ◌++◌, length, take, drop, slice_get, IfSome}
+use Rattle.std.specs.Prelude.{ℕ, ◌≡◌, ◌==◌, ◌≤◌, nat_lt, if◌then◌else◌, Bool, true, false, List, [], ◌∷◌, ◌++◌, length, map, take, drop, slice_get, IfSome}
 use Rattle.dc_node.specs.Summary.{IsSummaryOf}
 use Rattle.describing_set.specs.declared.set.DescSet.{DescSet}
 use Rattle.dim_hierarchy.specs.{Filter.matches, declared.row.Row.Row}
 use Rattle.measure_agg.specs.{Aggregate.Aggregate, Joining.{join, one}}
 use Rattle.group_answer.specs.{Groups.{Question, concept_of, line}, Telling.{IsNarrow, IsOfAll}}
-use Rattle.group_answer.specs.declared.page.GroupLine.{GroupLine}
+use Rattle.row_ledger.specs.declared.page.GroupLine.{GroupLine}
+
+-- lines, as a value of their own
+pub record LinesValue : Type 0 where
+  pub items : List GroupLine
+
+abbrev pub concepts_in : List GroupLine → List ℕ
+concepts_in lines = map (λ (x : GroupLine). x.id) lines
 
 -- ascending lines with an aggregate more for a concept, which may have a line already
 abbrev pub with_line : ℕ → Aggregate → List GroupLine → List GroupLine

@@ -1,58 +1,17 @@
--- Rows by the concept of a level that they are under: which concepts these are, and the aggregate of each one's rows.
-use Rattle.std.specs.{Coded.{Coded, code_by, coded×, coded_ℕ, coded_list}, Prelude.{ℕ, ◌≡◌, ◌==◌, ◌<◌, ◌≤◌, refl, List, length, map, filter}}
+-- How a question is stored, and lines together.
+use Rattle.std.specs.{Coded.{Coded, code_by, coded×, coded_ℕ, coded_list}, Prelude.{ℕ, refl, List, map}}
 use Rattle.dc_node.specs.Summary.{joined}
-use Rattle.describing_set.specs.Ascending.{ascending}
-use Rattle.dim_hierarchy.specs.{Compiled.pick_code, Dimension.{Dimension, tree}, Filter.{IsFilterOf, matches}, Row.concept_at, Stored.dimension_code, Tree.{leaf_level, up}, declared.filter.Pick.Pick, declared.row.Row.Row}
-use Rattle.measure_agg.specs.Aggregate.{Aggregate, agg}
-use Rattle.group_answer.specs.declared.page.GroupLine.{GroupLine}
-use Rattle.group_answer.specs.declared.page.GroupPage.{GroupPage}
+use Rattle.dim_hierarchy.specs.{Compiled.pick_code, Dimension.Dimension, Stored.dimension_code, declared.filter.Pick.Pick}
+use Rattle.measure_agg.specs.Aggregate.{Aggregate}
+use Rattle.row_ledger.specs.declared.page.GroupLine.{GroupLine}
+pub use Rattle.row_ledger.specs.Groups.{IsGroupPage, IsQuestion, Question, concept_of, groups, line, matching, question, under}
 
--- which rows are asked for, and by which level of which dimension they are told apart
-pub record Question : Type 0 where
-  pub hierarchy : List Dimension
-  pub filter : List Pick
-  pub dim : ℕ
-  pub level : ℕ
-
-abbrev pub question : List Dimension → List Pick → (dim level : ℕ) → Question
-question h f dim level = record { hierarchy = h; filter = f; dim = dim; level = level }
-
--- this is stored as its parts
+-- a question is stored as its parts
 abbrev pub question_code : Coded Question
 question_code =
     code_by (List Dimension × (List Pick × (ℕ × ℕ))) (coded× (coded_list dimension_code) (coded× (coded_list pick_code) (coded× coded_ℕ coded_ℕ)))
     (λ q. (q.hierarchy, (q.filter, (q.dim, q.level)))) (λ p. record { hierarchy = p.0; filter = p.1.0; dim = p.1.1.0; level = p.1.1.1 }) (λ _. refl)
 
--- the filter is one of the hierarchy, and the dimension has that level
-pub record IsQuestion (q : Question) : Type 0 where
-  pub filter : IsFilterOf q.hierarchy q.filter
-  pub dim : q.dim < length q.hierarchy
-  pub level : q.level ≤ leaf_level (tree q.hierarchy q.dim)
-
--- the rows that the filter matches
-abbrev pub matching : Question → List Row → List Row
-matching q rows = filter (λ (r : Row). matches q.hierarchy q.filter r.at) rows
-
--- the concept of that level that a row is under
-abbrev pub concept_of : Question → Row → ℕ
-concept_of q row = up (tree q.hierarchy q.dim) (concept_at row.at q.dim) q.level
-
--- the rows under a concept
-abbrev pub under : Question → ℕ → List Row → List Row
-under q id rows = filter (λ (r : Row). concept_of q r == id) rows
-
-abbrev pub line : ℕ → Aggregate → GroupLine
-line id total = record { id = id; agg = total }
-
--- ascending, the concepts of that level that a matching row is under, each with the aggregate of these rows
-abbrev pub groups : Question → List Row → List GroupLine
-groups q rows = map (λ (id : ℕ). line id (agg (under q id (matching q rows)))) (ascending (map (concept_of q) (matching q rows)))
-
 -- the aggregate of all lines together
 abbrev pub all_of : List GroupLine → Aggregate
 all_of lines = joined (map (λ (x : GroupLine). x.agg) lines)
-
--- the page of these rows
-pub record IsGroupPage (q : Question) (rows : List Row) (page : GroupPage) : Type 0 where
-  pub lines : page.lines ≡ groups q rows
-  pub all : page.all ≡ agg (matching q rows)

@@ -11,10 +11,9 @@ ghost use Rattle.group_answer.specs.Seen.{AreAckedIn, AreGroupsIn, HasCountIn, T
 use crate::asked::Asked;
 use crate::found::Found;
 use crate::gates::add_gate;
-use crate::lines::all_of;
-use crate::page::{GroupLines, GroupPage};
 use core_pages::{Cells, led_at, spot_count};
 use dim_hierarchy::{Filter, Hierarchy};
+use row_ledger::GroupPage;
 use std::alloc::{AllocError, Global};
 
 /// Adds the rows of all shards that stand to nothing.
@@ -77,9 +76,9 @@ pub fn group<C: Cells>(
     let added = add_shards(alloc, cells, &asked, servers, many, &mut found);
     *steps = steps.saturating_add(found.looks);
     added?;
-    let all = all_of(found.lines.as_slice());
+    let all = found.lines.all();
     Ok(GroupPage {
-        lines: GroupLines::from_vec(found.lines),
+        lines: found.lines.into_lines(),
         all,
     })
 }

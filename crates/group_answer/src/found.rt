@@ -6,8 +6,7 @@ ghost use Rattle.group_answer.specs.Adding.{IsAdded, with_line, with_row, with_r
 ghost use Rattle.group_answer.specs.Groups.{IsQuestion, all_of};
 
 use crate::asked::Asked;
-use crate::lines;
-use crate::page::GroupLine;
+use crate::lines::Lines;
 use crate::told::{Told, tells};
 use describing_set::DescSet;
 use dim_hierarchy::{ConceptId, Row};
@@ -17,7 +16,7 @@ use std::alloc::{AllocError, Global};
 /// The lines so far, and how many gates, blocks and rows of queues were looked at.
 #[derive(Drop)]
 pub(crate) struct Found {
-    pub(crate) lines: Vec<GroupLine>,
+    pub(crate) lines: Lines,
     pub(crate) looks: u64,
 }
 
@@ -28,7 +27,7 @@ impl Found {
         ensures looks { result.looks ≡ 0 }
     {
         Found {
-            lines: Vec::new(alloc),
+            lines: Lines::new(alloc),
             looks: 0,
         }
     }
@@ -47,7 +46,7 @@ impl Found {
         ensures lines { OnOk result (self.new.lines.items ≡ with_line id agg.now self.old.lines.items) }
         ensures looks { self.new.looks ≡ self.old.looks }
     {
-        lines::add(&mut self.lines, id, agg)
+        self.lines.add(id, agg)
     }
 
     /// Adds a row, where it matches.

@@ -17,10 +17,8 @@ mod found;
 mod gates;
 mod group_laws;
 mod lines;
-mod page;
 mod told;
 mod walk;
 
 pub use answer::group;
 pub use group_laws::laws;
-pub use page::{GroupLine, GroupLines, GroupPage};

@@ -1,28 +1,90 @@
 //! Lines in the order of their concepts, as aggregates are added.
-ghost use Rattle.std.specs.Prelude.{◌≡◌, ◌+◌, ◌<◌, ◌^◌, OnOk};
-ghost use Rattle.group_answer.specs.Adding.{IsPlaceOf, with_line};
+ghost use Rattle.std.specs.Prelude.{◌≡◌, ◌+◌, ◌<◌, ◌^◌, [], OnOk};
+ghost use Rattle.describing_set.specs.Sorted.{Ascends};
+ghost use Rattle.group_answer.specs.Adding.{IsPlaceOf, concepts_in, with_line};
 ghost use Rattle.group_answer.specs.Groups.{all_of};
 
-use crate::page::GroupLine;
 use dim_hierarchy::ConceptId;
 use measure_agg::Agg;
-use std::alloc::AllocError;
+use row_ledger::{GroupLine, GroupLines};
+use std::alloc::{AllocError, Global};
+use std::marker::Model;
 
-/// The place of a concept's line, or the one where it goes.
+/// Lines in the order of their concepts, of which each has one.
+#[derive(Drop)]
+pub(crate) struct Lines {
+    lines: Vec<GroupLine>,
+}
+
+impl Model for Lines {
+    ghost use Rattle.describing_set.specs.Sorted.{Ascends};
+    ghost use Rattle.group_answer.specs.Adding.{LinesValue, concepts_in};
+
+    ghost Value = { LinesValue };
+
+    ghost view = { λ l. record { items = l.lines.items } };
+
+    ghost invariant = { λ l. Ascends (concepts_in l.lines.items) };
+}
+
+impl Lines {
+    /// No line. Takes no memory.
+    pub(crate) fn new(alloc: Global) -> Lines
+        ensures { result.items ≡ [] }
+    {
+        Lines {
+            lines: Vec::new(alloc),
+        }
+    }
+
+    /// Adds an aggregate to the line of a concept, which may not have one yet.
+    pub(crate) fn add(&mut self, id: ConceptId, agg: &Agg) -> Result<(), AllocError>
+        requires few { (all_of self.old.items).count + agg.now.count < 2 ^ 63 }
+        ensures { OnOk result (self.new.items ≡ with_line id agg.now self.old.items) }
+    {
+        add(&mut self.lines, id, agg)
+    }
+
+    /// The aggregate of all lines together.
+    pub(crate) fn all(&self) -> Agg
+        requires few { (all_of self.now.items).count < 2 ^ 63 }
+        ensures { result ≡ all_of self.now.items }
+    {
+        all_of(self.lines.as_slice())
+    }
+
+    /// The lines of a page. Takes no memory.
+    pub(crate) fn into_lines(self) -> GroupLines
+        ensures { result ≡ self.items }
+    {
+        GroupLines::from_vec(self.lines)
+    }
+}
+
+/// The place of a concept's line, or the one where it goes. Halves the lines among which it is looked for.
 fn place_of(lines: &[GroupLine], id: ConceptId) -> usize
+    requires { Ascends (concepts_in lines.now) }
     ensures { IsPlaceOf id lines.now result }
 {
-    let mut at = 0;
-    while at < lines.len() && lines[at].id < id {
-        at += 1;
+    let mut from = 0;
+    let mut to = lines.len();
+    while from < to {
+        let middle = from + (to - from) / 2;
+        if lines[middle].id < id {
+            from = middle + 1;
+        } else {
+            to = middle;
+        }
     }
-    at
+    from
 }
 
 /// Adds an aggregate to the line of a concept, which may not have one yet.
-pub(crate) fn add(lines: &mut Vec<GroupLine>, id: ConceptId, agg: &Agg) -> Result<(), AllocError>
+fn add(lines: &mut Vec<GroupLine>, id: ConceptId, agg: &Agg) -> Result<(), AllocError>
     requires few { (all_of lines.old.items).count + agg.now.count < 2 ^ 63 }
-    ensures { OnOk result (lines.new.items ≡ with_line id agg.now lines.old.items) }
+    requires ascends { Ascends (concepts_in lines.old.items) }
+    ensures lines { OnOk result (lines.new.items ≡ with_line id agg.now lines.old.items) }
+    ensures ascends { Ascends (concepts_in lines.new.items) }
 {
     let at = place_of(lines, id);
     if at < lines.len() && lines[at].id == id {
@@ -37,7 +99,7 @@ pub(crate) fn add(lines: &mut Vec<GroupLine>, id: ConceptId, agg: &Agg) -> Resul
 }
 
 /// The aggregate of all lines together.
-pub(crate) fn all_of(lines: &[GroupLine]) -> Agg
+fn all_of(lines: &[GroupLine]) -> Agg
     requires few { (all_of lines.now).count < 2 ^ 63 }
     ensures { result ≡ all_of lines.now }
 {

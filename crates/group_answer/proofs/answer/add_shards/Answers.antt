@@ -5,7 +5,7 @@ use Rattle.core_pages.specs.{Looks.{HasCells, StateValue, blocks_of, cells_in, g
 use Rattle.core_pages.specs.volap_cell.specs.Cells.{CellValue}
 use Rattle.core_pages.proofs.StateLines.{can-lead, gate-at}
 use Rattle.group_answer.specs.{Adding.with_rows, Groups.all_of, Reading.{IsReadable, rows_of, rows_of_spot, rows_of_spots}, Telling.IsNarrow}
-use Rattle.group_answer.specs.declared.page.GroupLine.{GroupLine}
+use Rattle.row_ledger.specs.declared.page.GroupLine.{GroupLine}
 use Rattle.group_answer.proofs.{RowSteps.{rows-append, rows-few}, StateGroups.{few-in, one-more, readable-in, room-for-one}}
 use Rattle.group_answer.proofs.answer.add_shards.Goals as goal
 

@@ -2,7 +2,7 @@ use Rattle.std.proofs.{Common.{List, ◌-◌, ◌≡◌, length, sym, ap, ◌∙
 use Rattle.core_pages.specs.Looks.{blocks_of, cells_in, gate_in}
 use Rattle.core_pages.specs.shard_store.specs.Gate.{root_entry}
 use Rattle.group_answer.specs.{Adding.with_rows, Groups.all_of, Reading.rows_at}
-use Rattle.group_answer.specs.declared.page.GroupLine.{GroupLine}
+use Rattle.row_ledger.specs.declared.page.GroupLine.{GroupLine}
 use Rattle.group_answer.proofs.{RowSteps.{rows-append, rows-few}, Steps.on-ok}
 use Rattle.group_answer.proofs.gates.add_gate.Goals as goal
 

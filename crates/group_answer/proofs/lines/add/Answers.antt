@@ -1,8 +1,9 @@
 use Rattle.std.proofs.{Common.{◌≡◌, ◌<◌, List, length, set, sym, ap, ◌∙◌, subst, eqb-true, arith}, lemmas.Bool.eqb-false, lemmas.List.get_or_default}
+use Rattle.describing_set.specs.Sorted.{Ascends}
 use Rattle.measure_agg.specs.Aggregate.{Aggregate}
-use Rattle.group_answer.specs.{Adding.IsPlaceOf, Groups.line}
-use Rattle.group_answer.specs.declared.page.GroupLine.{GroupLine}
-use Rattle.group_answer.proofs.LineSteps.{line-few, line-inserted, line-written}
+use Rattle.group_answer.specs.{Adding.{IsPlaceOf, concepts_in}, Groups.line}
+use Rattle.row_ledger.specs.declared.page.GroupLine.{GroupLine}
+use Rattle.group_answer.proofs.LineSteps.{ascends-with_line, line-few, line-inserted, line-written}
 use Rattle.group_answer.proofs.lines.add.Goals as goal
 use Rattle.group_answer.proofs.lines.add.Goals.{else-at-len-via-then-at-len+else-eq, else-at-len-via-else-at-len}
 
@@ -11,8 +12,8 @@ join-requires c =
     let few = line-few c.args.lines.now.items c.place_of-at.result c.index-then-eq.result.now (omega (arith, c.if-at-len.true, c.len.ensures)) c.index-then-eq.ensures in
     omega (arith, few, c.requires.few)
 
-pub returns-then-eq : goal.returns-then-eq
-returns-then-eq c =
+pub returns-then-eq-clause-lines : goal.returns-then-eq-clause-lines
+returns-then-eq-clause-lines c =
     let lines = c.args.lines.now.items in
     let at = c.place_of-at.result in
     let id = c.args.id in
@@ -22,8 +23,12 @@ returns-then-eq c =
     let here : id ≡ x.id = sym (eqb-true c.index.result.now.id id (sym c.if-eq.ensures)) ∙ ap (λ (z : GroupLine). z.id) same in
     ap (λ (a : Aggregate). set lines at (line id a)) c.join.ensures ∙ line-written id c.args.agg.now lines at (subst (λ (l : List GroupLine). IsPlaceOf id l at) c.deref.ensures.value c.place_of-at.ensures) x lt c.index-then-eq.ensures here
 
-pub returns : goal.returns
-returns c =
+pub returns-then-eq-clause-ascends : goal.returns-then-eq-clause-ascends
+returns-then-eq-clause-ascends c =
+    subst (λ (l : List GroupLine). Ascends (concepts_in l)) (sym (returns-then-eq-clause-lines c)) (ascends-with_line c.args.id c.args.agg.now c.args.lines.now.items c.requires.ascends)
+
+pub returns-clause-lines : goal.returns-clause-lines
+returns-clause-lines c =
     let lines = c.args.lines.now.items in
     let at = c.place_of-at.result in
     c.in_ok-insert.ensures.items
@@ -33,3 +38,7 @@ returns c =
           λ e. eqb-false w.index.result.now.id c.args.id (sym w.if-eq.ensures) (ap (λ (z : GroupLine). z.id) same ∙ e)
       | else-at-len-via-else-at-len w ↦ λ e. omega (arith, lt, w.if-at-len.false, c.len.ensures)
     ])
+
+pub returns-clause-ascends : goal.returns-clause-ascends
+returns-clause-ascends c =
+    subst (λ (l : List GroupLine). Ascends (concepts_in l)) (sym (returns-clause-lines c)) (ascends-with_line c.args.id c.args.agg.now c.args.lines.now.items c.requires.ascends)

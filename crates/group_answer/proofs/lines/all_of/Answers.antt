@@ -2,7 +2,7 @@ use Rattle.std.proofs.{Common.{List, ◌+◌, ◌≡◌, ◌∷◌, drop, sym, a
 use Rattle.measure_agg.specs.{Aggregate.Aggregate, Joining.join}
 use Rattle.measure_agg.proofs.AggLaws.{join_associative}
 use Rattle.group_answer.specs.Groups.{all_of}
-use Rattle.group_answer.specs.declared.page.GroupLine.{GroupLine}
+use Rattle.row_ledger.specs.declared.page.GroupLine.{GroupLine}
 use Rattle.group_answer.proofs.lines.all_of.Goals as goal
 
 pub loop-line-preserved : goal.loop-line-preserved

@@ -5,7 +5,7 @@ use Rattle.list_words.specs.Counts.{Each}
 use Rattle.core_pages.specs.Looks.{HasCells, StateValue, blocks_of, cells_in}
 use Rattle.core_pages.specs.tree_shape.specs.PageLines.{group_entries}
 use Rattle.group_answer.specs.{Adding.with_rows, Groups.all_of, Reading.{AreSummed, rows_at}}
-use Rattle.group_answer.specs.declared.page.GroupLine.{GroupLine}
+use Rattle.row_ledger.specs.declared.page.GroupLine.{GroupLine}
 use Rattle.group_answer.proofs.{RowSteps.{rows-append, rows-few}, Steps.on-ok, Summed.{rows-below, summed-below}}
 use Rattle.group_answer.proofs.walk.+walk.Goals as goal
 

@@ -2,7 +2,7 @@ use Rattle.std.proofs.Common.{List, ◌≡◌, All, length, sym, ap, ◌∙◌, 
 use Rattle.dim_hierarchy.specs.{Rows.IsRowOf}
 use Rattle.core_pages.specs.Looks.{blocks_of, cells_in}
 use Rattle.group_answer.specs.{Adding.with_rows, Groups.all_of, Reading.rows_at}
-use Rattle.group_answer.specs.declared.page.GroupLine.{GroupLine}
+use Rattle.row_ledger.specs.declared.page.GroupLine.{GroupLine}
 use Rattle.group_answer.proofs.Steps.{on-ok}
 use Rattle.group_answer.proofs.walk.add_leaves.Goals as goal
 
