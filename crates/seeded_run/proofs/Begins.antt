@@ -91,6 +91,7 @@ begins-closes : (with : Use) (h : List Dimension) (past : List Event) (c : Comma
 begins-closes with h past (script.Insert new) (event.Called session call) b closing = absurd b
 begins-closes with h past (script.Query question) (event.Called session call) b closing = absurd b
 begins-closes with h past (script.Control called) (event.Called session call) b closing = ap (λ (x : Call). is_closing (class_of x)) (sym b.1) ∙ closing
+begins-closes with h past (script.Group dim level filter) (event.Called session call) b closing = refl
 begins-closes with h past c (event.Begun session server row) b closing = cc
 begins-closes with h past c (event.Asked session server filter) b closing = cc
 begins-closes with h past c (event.Unknown session server dim) b closing = cc

@@ -83,6 +83,11 @@ module _ (m : Running) (kept : IsPhaseKept m) (n : ℕ) where
           none : (o : Option Actor) → AsksHere o (Some (script.Control called))
           none None = tt
           none (Some a) = tt
+      by (Some (script.Group dim level filter)) at = none (get_or m.state.actors.items n None)
+        where
+          none : (o : Option Actor) → AsksHere o (Some (script.Group dim level filter))
+          none None = tt
+          none (Some a) = tt
 
 -- What an actor does on its turn.
 module _ (m : Running) (kept : IsPhaseKept m) (n : ℕ) (within : n < length m.state.actors.items) where

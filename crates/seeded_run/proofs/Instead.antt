@@ -22,3 +22,4 @@ note-stands (script.Insert new) false = inl refl
 note-stands (script.Query question) true = inr refl
 note-stands (script.Query question) false = inl refl
 note-stands (script.Control called) known = inl refl
+note-stands (script.Group dim level filter) known = inl refl

@@ -5,25 +5,26 @@ use Rattle.std.specs.{List.list_any, Prelude.{⊤, IsSome}}
 use Rattle.core_due.proofs.{BooksHeld.hold-ledger, Holding.{prepared, there}, InStates.{cells-seen, counted, may-make}, WorksAsked.{shown-alone, work-asked}}
 use Rattle.core_due.specs.{Look.{cells_only, setting_by, world_by}, Ready.IsStateOf, WorkLaws.IsAtWork, Works.work_due, WorksReady.{AreBytes, IsNoteAsked, IsShowing}, declared.works.WorkDue.WorkDue}
 use Rattle.core_due.specs.declared.works.WorkDue.TheVariants as work_due_is
-use Rattle.core_pages.specs.core_image.proofs.Images.Hosts.{host-on, stands-live}
+use Rattle.core_pages.specs.core_image.proofs.{EachStep.NotesShown.{IsNewest, newest-call}, Images.Hosts.{host-on, stands-live}}
 use Rattle.core_pages.specs.core_image.specs.NotesDue.{Shows as IsPageOf}
 use Rattle.core_pages.proofs.LookedAt.{has-cells, seen-of, valid-of, world-of}
 use Rattle.core_pages.specs.{Looks.IsSeenOf, Seen.{CanSee, CanSeeIn, IsOfGate, IsQuietIn}}
 use Rattle.core_due.specs.core_steps.specs.Notes.{note_asks, note_places}
 use Rattle.core_due.specs.core_steps.specs.declared.notes.NoteStep.TheVariants as note
-use Rattle.dim_hierarchy.specs.Dimension.{Dimension}
+use Rattle.dim_hierarchy.specs.{Dimension.Dimension, declared.filter.Pick.Pick}
 use Rattle.list_words.proofs.{Elements.Some-same, Truth.on_bool}
 use Rattle.mapping_table.specs.declared.place.Where.TheVariants as where_is
 use Rattle.row_ledger.proofs.Positions.{before-here}
-use Rattle.row_ledger.specs.{Past.{before, call_at, call_in}, Shards.{Place, frontier, is_live, is_of, places_after}, Workers.is_on, declared.class.Subject.Subject, declared.event.Event.Event, declared.event.Event.TheVariants.Called, declared.page.Page.Page, declared.page.TreePage.TreePage, declared.settings.Call.Call, declared.settings.Use.Use}
+use Rattle.row_ledger.specs.declared.class.Class.TheVariants as class
+use Rattle.row_ledger.specs.{Classes.class_of, Groups.{IsQuestion, question}, Past.{before, call_at, call_in, newest}, Right.{EachEvent, Stands}, Shards.{Place, frontier, is_live, is_of, places_after}, Workers.is_on, declared.class.Subject.Subject, declared.event.Event.Event, declared.event.Event.TheVariants.Called, declared.page.Page.Page, declared.page.TreePage.TreePage, declared.settings.Call.Call, declared.settings.Call.TheVariants.{Sync, Split, Move, Balance, Barrier, Settle, Shards, Tree, Audit, Group}, declared.settings.Use.Use}
 use Rattle.row_ledger.specs.declared.class.Subject.TheVariants as subject
 use Rattle.row_ledger.specs.declared.page.Page.TheVariants as page
 use Rattle.server_image.specs.Registry.{host_of}
 use Rattle.core_pages.specs.volap_cell.proofs.{Cells.States.{of-it, stands}, OneEvent.Noted.new-told}
-use Rattle.core_pages.specs.volap_cell.specs.{Cells.{CellValue, gate_shard, phase_of}, Ghost.Ghost, Invariant.InvWith, Opening.IsFresh, Setting.{Setting, actor_count, cell_count, ledger_cell}, Sights.{IsIdle, SeesPage}, State.IsWorldOf, Steps.{Inv, history_in}, Values.{ActorValue, actor_of}, View.view, World.World, declared.command.Work.Work, declared.state.State.State}
+use Rattle.core_pages.specs.volap_cell.specs.{Cells.{CellValue, gate_shard, ledger_in, phase_of}, Ghost.Ghost, Invariant.InvWith, Opening.IsFresh, Setting.{Setting, actor_count, cell_count, ledger_cell, site_in}, Sights.{HasGroups, IsIdle, SeesPage}, State.IsWorldOf, Steps.{Inv, history_in}, Values.{ActorValue, actor_of}, View.view, World.World, declared.command.Work.Work, declared.state.State.State}
 use Rattle.core_pages.specs.volap_cell.specs.declared.command.Work.TheVariants as work_is
 use Rattle.core_pages.specs.shard_store.specs.declared.gate.Phase.TheVariants.{Gone}
-use Rattle.seeded_run.specs.{Drives.MayShow, Pages.{CanShow, MayTell, Shows, ShowsTree, place_at, place_of, seen}}
+use Rattle.seeded_run.specs.{Drives.MayShow, Pages.{CanShow, MayTell, Shows, ShowsGroups, ShowsTree, place_at, place_of, seen}}
 
 -- Right behind a call that begins, the shards stand that stood before it.
 
@@ -162,10 +163,52 @@ module _ (h : List Dimension) (with : Use) (state : State) (s : Setting) (w : Wo
       may_tell = λ shown looks of_gate. may-tell (subject.Tree shard) k (page.Tree shown) (of-shard shown of_gate) (λ t v same at inv. looks t v at inv);
     }
 
+  -- The groups that a call asks for.
+  module _ (k : IsShowing w n subject.Groups) where
+    its-call : (c : Call) × (call_at (history_in w) k.of ≡ Some c) × (class_of c ≡ class.Page subject.Groups)
+    its-call = (i.telling.progress n (record { of = k.of; work = work_is.Page subject.Groups true false }) k.command).0
+
+    asks : (session dim level : ℕ) (filter : List Pick) (past : List Event) → history_in w ≡ Called session (Group dim level filter) ∷ past → ShowsGroups h with state n
+    asks session dim level filter past is_newest = record {
+      quiet = quiet-in subject.Groups k;
+      count = λ t v looks inv. ap cell_count (sym (about-same h with state s w is n (here subject.Groups k) t v (in-state v looks) inv)) ∙ sym is.places;
+      session = session;
+      dim = dim;
+      level = level;
+      filter = filter;
+      called = ap (λ (f : ℕ → CellValue). newest (ledger_in (f ledger_cell)).history) (sym (cells-seen state.cells.items state.actors.items w is.is)) ∙ ap newest is_newest;
+      valid = subst (λ (hs : List Dimension). IsQuestion (question hs filter dim level)) is.hierarchy (subst (λ (past : List Event). EachEvent (Stands (site_in s) g.placed) past) is_newest i.telling.right.right.each).0;
+      may_tell = λ shown are. may-tell subject.Groups k (page.Group shown) tt (λ t v same at inv. record {
+        session = session;
+        dim = dim;
+        level = level;
+        filter = filter;
+        past = past;
+        called = ap (λ (f : ℕ → CellValue). (ledger_in (f ledger_cell)).history) (sym (cells-same h with state s w is n (here subject.Groups k) t v (in-state v at) inv)) ∙ is_newest;
+        has = subst (λ (hs : List Dimension). HasGroups (question hs filter dim level) t (view t v) shown) (sym same) (are t v same at inv);
+      });
+    }
+
+    by-call : (c : Call) → class_of c ≡ class.Page subject.Groups → IsNewest (history_in w) k.of c → ShowsGroups h with state n
+    by-call (Group dim level filter) is_class x = asks x.session dim level filter x.past x.is
+    by-call (Sync server) is_class x = absurd (cc)
+    by-call (Split shard) is_class x = absurd (cc)
+    by-call (Move shard worker) is_class x = absurd (cc)
+    by-call (Balance _) is_class x = absurd (cc)
+    by-call Barrier is_class x = absurd (cc)
+    by-call Settle is_class x = absurd (cc)
+    by-call Shards is_class x = absurd (let same : subject.Shards ≡ subject.Groups = cc in cc)
+    by-call (Tree shard) is_class x = absurd (let same : subject.Tree shard ≡ subject.Groups = cc in cc)
+    by-call Audit is_class x = absurd (let same : subject.Rows ≡ subject.Groups = cc in cc)
+
+    shows-groups : ShowsGroups h with state n
+    shows-groups = by-call its-call.0 its-call.2 (newest-call (history_in w) k.of its-call.0 k.next its-call.1)
+
   shows : (about : Subject) → IsShowing w n about → Shows h with state n about
   shows (subject.Tree shard) k = shows-tree shard k
   shows subject.Shards k = record { quiet = quiet-in subject.Shards k; may_tell = λ lines are. may-tell subject.Shards k (page.Shards lines) tt are }
   shows subject.Rows k = record { quiet = quiet-in subject.Rows k; may_tell = λ audit is_so. may-tell subject.Rows k (page.Audit audit) tt (λ t v same at inv. is_so t v at inv) }
+  shows subject.Groups k = shows-groups k
 
   can-show : (about : Subject) → IsShowing w n about → CanShow h with state n about
   can-show about k = record {

@@ -142,6 +142,7 @@ module _ (h : List Dimension) (with : Use) (cells : List (Option Cell)) (actors 
   desk-empty None asks none = tt
   desk-empty (Some (script.Insert new)) asks none = tt
   desk-empty (Some (script.Control call)) asks none = tt
+  desk-empty (Some (script.Group dim level filter)) asks none = tt
   desk-empty (Some (script.Query q)) asks none = ap (λ r. is_empty_desk (desk_of (setting_by [] with) (world_by cells) r)) asks.1 ∙ empty-here asks.0 asks.1 none
 
 -- In order.

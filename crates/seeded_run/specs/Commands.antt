@@ -1,8 +1,8 @@
 -- What the steps of commands ask and tell in a script's core: which command is the next one and may begin, and what became of the
 -- history.
-use Rattle.std.specs.Prelude.{ℕ, ◌≡◌, ◌<◌, ⊤, Bool, true, false, All, List, ◌∷◌, get_or, length, Option, Some, None}
-use Rattle.dim_hierarchy.specs.{Dimension.Dimension, Names.IsNamePick}
-use Rattle.row_ledger.specs.{Classes.class_of, declared.class.Class.Class, declared.class.Class.TheVariants.Sync, declared.event.Event.Event, declared.settings.Use.Use}
+use Rattle.std.specs.Prelude.{ℕ, ◌≡◌, ◌<◌, ◌≤◌, ⊤, Bool, true, false, All, List, ◌∷◌, get_or, length, Option, Some, None}
+use Rattle.dim_hierarchy.specs.{Dimension.{Dimension, tree}, Names.IsNamePick, Tree.leaf_level}
+use Rattle.row_ledger.specs.{Classes.class_of, Groups.IsCallOf, declared.class.Class.Class, declared.class.Class.TheVariants.Sync, declared.event.Event.Event, declared.settings.Use.Use}
 use Rattle.script_form.specs.declared.script.Command.{Command}
 use Rattle.script_form.specs.declared.script.Command.TheVariants as script
 use Rattle.script_run.specs.{Places.session_of, Runs.{Begins, can_be_refused}}
@@ -54,11 +54,13 @@ abbrev pub IsAllowedCall : Use → Class → Type 0
 IsAllowedCall with (Sync server) = server < with.servers
 IsAllowedCall with class = ⊤
 
--- a command is for a server that is there; a query is asked where there is a dimension, and picks by one name at least
+-- A command is for a server that is there. A query is asked where there is a dimension, and picks by one name at least, and so does a
+-- group, by a level of its dimension.
 abbrev pub IsAllowed : Use → List Dimension → Command → Type 0
 IsAllowed with h (script.Insert new) = new.server < with.servers
 IsAllowed with h (script.Query question) = (question.server < with.servers) × (0 < length h) × All IsNamePick question.filter
-IsAllowed with h (script.Control called) = IsAllowedCall with (class_of called)
+IsAllowed with h (script.Control called) = IsAllowedCall with (class_of called) × IsCallOf h called
+IsAllowed with h (script.Group dim level filter) = (dim < length h) × (level ≤ leaf_level (tree h dim)) × All IsNamePick filter
 
 -- the command may find no memory before it begins, and end with that
 abbrev pub may_be_refused : Command → Bool

@@ -45,3 +45,4 @@ abbrev pub HasNames : List Dimension → Command → Type 0
 HasNames h (script.Insert new) = length new.names ≡ length h
 HasNames h (script.Query question) = length question.filter ≡ length h
 HasNames h (script.Control call) = ⊤
+HasNames h (script.Group dim level filter) = length filter ≡ length h

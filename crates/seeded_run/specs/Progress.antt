@@ -2,7 +2,7 @@
 use Rattle.std.specs.Prelude.{ℕ, ◌≡◌, ◌≢◌, ◌+◌, ◌<◌, ◌&&◌, Bool, true, false, List, [], ◌∷◌, Some, None, is_some, length, slice_get}
 use Rattle.script_form.specs.{declared.script.Command.Command, declared.script.Command.TheVariants.Query, declared.script.Question.Question}
 use Rattle.script_run.specs.{Phases.closes, Places.session_of}
-use Rattle.core_pages.specs.volap_cell.specs.{Commands.once_shown, Ghost.Ghost, Invariant.InvWith, Setting.{Setting, actor_count}, Steps.history_in, View.view, World.World, declared.command.Command.Command as OpenCommand, declared.kind.Kind.Kind, declared.role.Role.Role, declared.role.Role.TheVariants.{Hand, Session}}
+use Rattle.core_pages.specs.volap_cell.specs.{Commands.once_shown, Ghost.Ghost, Invariant.InvWith, Setting.{Setting, actor_count}, Steps.history_in, View.view, World.World, declared.command.Command.Command as OpenCommand, declared.kind.Kind.Kind, declared.role.Role.TheVariants.{Hand, Session}}
 use Rattle.script_roles.specs.Roles.{AreScriptRoles}
 use Rattle.core_due.specs.{Due.{does_nothing, is_empty}, Wants.meets}
 use Rattle.seeded_run.specs.{Can.able_in, Due.{due_by, is_alone}, Rests.{PhaseRun, first_open, rest_of}}

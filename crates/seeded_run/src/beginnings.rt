@@ -2,7 +2,7 @@
 ghost use Rattle.std.specs.Prelude.{ℕ, ◌≡◌, true, Err, OnErr, OnOk, Some};
 ghost use Rattle.core_due.specs.core_steps.specs.Steps.{IsFurther, IsSame};
 ghost use Rattle.dim_hierarchy.specs.declared.hierarchy.FilterFault.TheVariants.{Unknown};
-ghost use Rattle.script_form.specs.declared.script.Command.TheVariants.{Control, Insert, Query};
+ghost use Rattle.script_form.specs.declared.script.Command.TheVariants.{Control, Group, Insert, Query};
 ghost use Rattle.script_run.specs.Runs.{first_unknown};
 ghost use Rattle.seeded_run.specs.Commands.{GoesBy, IsToBegin, beginning, may_be_refused};
 ghost use Rattle.seeded_run.specs.Core.{HasCore, StepsOn};
@@ -11,7 +11,7 @@ ghost use Rattle.core_pages.specs.volap_cell.specs.declared.kind.Kind.TheVariant
 
 use core_due::core_steps::{BeginStep, NoteStep, desk_place, image_place, make};
 use core_pages::volap_cell::State;
-use dim_hierarchy::{FilterFault, Hierarchy};
+use dim_hierarchy::{FilterFault, Hierarchy, NameFilter};
 use row_ledger::{Call, Class, Subject, Use};
 use script_form::{Command, NewRow, Question};
 use std::alloc::{AllocError, Global};
@@ -116,6 +116,32 @@ fn begin_call(
     make(alloc, h, state, number, step)
 }
 
+/// The actor begins its command that is a group. Where a name is not that of a concept, or memory is wanting,
+/// the state stays as it was.
+fn begin_group(
+    alloc: Global,
+    h: &Hierarchy,
+    with: &Use,
+    state: &mut State,
+    number: usize,
+    dim: u8,
+    level: u8,
+    names: &NameFilter,
+) -> Result<(), FilterFault>
+    requires core { HasCore h.now with.now state.old.cells.items state.old.actors.items }
+    requires begins { IsToBegin h.now with.now state.old.cells.items state.old.actors.items number (Group dim level names.now) }
+    ensures made { OnOk result (IsFurther h.now Note number state.old state.new) }
+    ensures unknown { (dimension : ℕ) → result ≡ Err (Unknown dimension) → first_unknown h.now (Group dim level names.now) ≡ Some dimension }
+    ensures begun { OnOk result (GoesBy with.now h.now (Group dim level names.now) state.old.cells.items state.old.actors.items state.new.cells.items state.new.actors.items) }
+    ensures stays { OnErr result (IsSame state.old state.new) }
+{
+    let _ = with;
+    let filter = h.filter(alloc, names)?;
+    let call = Call::Group { dim, level, filter };
+    make(alloc, h, state, number, NoteStep::Called { call: &call })?;
+    Ok(())
+}
+
 /// The actor begins its next command. Where that names what is not known, or memory is wanting, the state
 /// stays as it was.
 fn begin_known(
@@ -140,6 +166,9 @@ fn begin_known(
             begin_call(alloc, h, with, state, number, called)?;
             Ok(())
         }
+        Command::Group { dim, level, filter } => begin_group(
+            alloc, h, with, state, number, *dim, *level, filter,
+        ),
     }
 }
 

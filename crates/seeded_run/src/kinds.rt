@@ -110,6 +110,6 @@ pub(crate) fn kind_of_beginning(h: &Hierarchy, command: &Command) -> Kind
     match command {
         Command::Insert(_) => Kind::BeginInsert,
         Command::Query(_) => Kind::BeginQuery,
-        Command::Control(_) => Kind::Note,
+        Command::Control(_) | Command::Group { .. } => Kind::Note,
     }
 }

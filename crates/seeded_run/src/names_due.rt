@@ -14,6 +14,7 @@ pub(crate) fn are_known(h: &Hierarchy, command: &Command) -> bool
     match command {
         Command::Insert(new) => h.coord(&new.names).is_ok(),
         Command::Query(question) => h.first_unknown(&question.filter).is_none(),
+        Command::Group { filter, .. } => h.first_unknown(filter).is_none(),
         Command::Control(_) => true,
     }
 }

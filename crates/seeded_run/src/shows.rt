@@ -4,23 +4,24 @@ ghost use Rattle.core_due.specs.Look.{cell_at, setting_by, world_by};
 ghost use Rattle.core_due.specs.WorksReady.{MayMakeNote};
 ghost use Rattle.core_due.specs.core_steps.specs.Steps.{IsSound};
 ghost use Rattle.core_due.specs.core_steps.specs.declared.notes.NoteStep.TheVariants as note;
+ghost use Rattle.row_ledger.specs.Past.{newest};
 ghost use Rattle.row_ledger.specs.declared.class.Subject.TheVariants as subject;
 ghost use Rattle.row_ledger.specs.declared.settings.How.TheVariants as how;
 ghost use Rattle.seeded_run.specs.Arms.{GoesOnWithCommand};
 ghost use Rattle.seeded_run.specs.Pages.{CanShow, MayTell, place_of};
 ghost use Rattle.server_image.specs.Registry.{host_of};
-ghost use Rattle.core_pages.specs.volap_cell.specs.Cells.{registry_in};
-ghost use Rattle.core_pages.specs.volap_cell.specs.Setting.{registry_cell};
+ghost use Rattle.core_pages.specs.volap_cell.specs.Cells.{ledger_in, registry_in};
+ghost use Rattle.core_pages.specs.volap_cell.specs.Setting.{ledger_cell, registry_cell};
 ghost use Rattle.core_pages.specs.volap_cell.specs.declared.kind.Kind.TheVariants.{Note};
 
 use crate::works::end_command;
-use core_due::core_steps::{NoteStep, make, registry_place};
+use core_due::core_steps::{NoteStep, ledger_place, make, registry_place};
 use core_due::{cell_at, map_at, where_at};
 use core_pages::Lent;
 use core_pages::volap_cell::{Cell, State};
 use dim_hierarchy::Hierarchy;
 use mapping_table::Where;
-use row_ledger::{How, Page, Subject, Use};
+use row_ledger::{Call, Event, How, Page, Subject, Use};
 use std::alloc::{AllocError, Global};
 
 /// The worker of a shard, as the registry tells; none where it tells none.
@@ -62,6 +63,51 @@ fn tree_page(
     Ok(Page::Tree(core_pages::tree_page_at(alloc, &mut Lent { state }, many, *gate)?))
 }
 
+/// The newest event of the history.
+fn newest_at(cells: &[Option<Cell>]) -> Option<&Event>
+    ensures { option_copied result ≡ newest (ledger_in (cell_at cells.now ledger_cell)).history }
+{
+    match cell_at(cells, ledger_place()) {
+        Some(Cell::Ledger(ledger)) => ledger.newest(),
+        _ => None,
+    }
+}
+
+/// The page of the group that the newest event calls.
+fn group_page(
+    alloc: Global,
+    h: &Hierarchy,
+    with: &Use,
+    state: &State,
+    number: usize,
+) -> Result<Page, AllocError>
+    requires can { CanShow h.now with.now state.now number subject.Groups }
+    ensures { IfOk result (MayTell h.now state.now number) }
+{
+    let Some(
+        Event::Called {
+            call: Call::Group { dim, level, filter },
+            ..
+        },
+    ) = newest_at(&state.cells)
+    else {
+        unreachable!()
+    };
+    let many = state.cells.len() as u32;
+    let mut steps = 0;
+    Ok(Page::Group(group_answer::group(
+        alloc,
+        &mut Lent { state },
+        h,
+        filter,
+        *dim,
+        *level,
+        with.servers,
+        many,
+        &mut steps,
+    )?))
+}
+
 /// The page that is due of a command.
 fn page_of(
     alloc: Global,
@@ -83,6 +129,7 @@ fn page_of(
             with.servers,
         )?)),
         Subject::Rows => Ok(Page::Audit(core_pages::audit_page(&mut Lent { state }, with.servers))),
+        Subject::Groups => group_page(alloc, h, with, state, number),
     }
 }
 

@@ -29,6 +29,7 @@ abbrev pub role_for : Command → Role
 role_for (script.Insert new) = Session new.server
 role_for (script.Query question) = Session question.server
 role_for (script.Control called) = role_of_class (class_of called)
+role_for (script.Group dim level filter) = Admin
 
 called-at : (s : Setting) (with : Use) (class : Class) → s.servers ≡ with.servers → AreScriptRoles s → slice_get s.roles (session_of_call with class) ≡ Some (role_of_class class)
 called-at s with (class_is.Sync server) same roles = ap (λ (m : ℕ). slice_get s.roles m) (sym same) ∙ roles.puller
@@ -42,6 +43,7 @@ own-at : (s : Setting) (with : Use) (h : List Dimension) (c : Command) → s.ser
 own-at s with h (script.Insert new) same roles allowed = roles.session new.server (subst (λ (m : ℕ). new.server < m) (sym same) allowed)
 own-at s with h (script.Query question) same roles allowed = roles.session question.server (subst (λ (m : ℕ). question.server < m) (sym same) allowed.0)
 own-at s with h (script.Control called) same roles allowed = called-at s with (class_of called) same roles
+own-at s with h (script.Group dim level filter) same roles allowed = ap (λ (m : ℕ). slice_get s.roles (m + 1)) (sym same) ∙ roles.admin
 
 may-call-as : (class : Class) → MayCallAs (role_of_class class) class
 may-call-as (class_is.Sync server) = tt
@@ -74,6 +76,7 @@ not-hand : (c : Command) (worker : ℕ) → role_for c ≡ Hand worker → ⊥
 not-hand (script.Insert new) worker e = cc
 not-hand (script.Query question) worker e = cc
 not-hand (script.Control called) worker e = no-hand (class_of called) worker e
+not-hand (script.Group dim level filter) worker e = cc
 
 -- What is due.
 
@@ -106,6 +109,7 @@ pub ends-noted : (c : Command) → beginning_if c false ≡ kind.Note
 ends-noted (script.Insert new) = refl
 ends-noted (script.Query question) = refl
 ends-noted (script.Control called) = refl
+ends-noted (script.Group dim level filter) = refl
 
 first-as : (desk : Option DeskValue) (c : Command) (known : Bool) (k : Kind) → first_kind desk c known ≡ Some k → k ≡ beginning_if c known
 first-as desk (script.Insert new) true k e = sym (kind-same kind.BeginInsert k e)
@@ -117,6 +121,7 @@ first-as desk (script.Query question) true k e = by (is_empty_desk desk) e
     by false e = cc
 first-as desk (script.Query question) false k e = sym (kind-same kind.Note k e)
 first-as desk (script.Control called) known k e = sym (kind-same kind.Note k e)
+first-as desk (script.Group dim level filter) known k e = sym (kind-same kind.Note k e)
 
 -- The actor has nothing to do and is there for the command; where that is a query of which all is known, the desk is empty.
 pub record IsAtNext (s : Setting) (w : World) (n : ℕ) (c : Command) : Type 0 where

@@ -103,6 +103,7 @@ first-other desk (script.Query question) true = either (is_empty_desk desk) (Som
 first-other desk (script.Query question) false = refl
 first-other desk (script.Control called) true = refl
 first-other desk (script.Control called) false = refl
+first-other desk (script.Group dim level filter) known = refl
 
 next-other : (h : List Dimension) (alone : Bool) (desk : Option DeskValue) (rest : List Command) → is_reuse (next_kind h alone desk rest) ≡ false
 next-other h alone desk [] = refl

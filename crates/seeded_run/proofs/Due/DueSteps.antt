@@ -50,6 +50,7 @@ first-begins desk (script.Control call) true k e = ap may_begin (sym (some-kind 
 first-begins desk (script.Insert new) false k e = ap may_begin (sym (some-kind kind.Note k e))
 first-begins desk (script.Query question) false k e = ap may_begin (sym (some-kind kind.Note k e))
 first-begins desk (script.Control call) false k e = ap may_begin (sym (some-kind kind.Note k e))
+first-begins desk (script.Group dim level filter) known k e = ap may_begin (sym (some-kind kind.Note k e))
 
 -- the next command begins by one of them
 next-begins : (h : List Dimension) (alone : Bool) (desk : Option DeskValue) (rest : List Command) (k : Kind) → next_kind h alone desk rest ≡ Some k → may_begin k ≡ true

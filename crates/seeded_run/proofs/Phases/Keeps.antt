@@ -7,6 +7,7 @@ use Rattle.row_ledger.proofs.Positions.{event_at-older, event_at-past}
 use Rattle.row_ledger.specs.{Classes.class_of, Past.{before, call_at, call_in, end_in, ends_itself, event_at, has_ended, is_end_of, is_over, pull_in, session_in}, Settled.pulls_since, declared.event.Event.Event, declared.settings.Call.Call, declared.settings.How.How, declared.settings.Use.Use}
 use Rattle.row_ledger.specs.declared.event.Event.TheVariants as event
 use Rattle.row_ledger.specs.declared.class.Class.TheVariants as class_is
+use Rattle.row_ledger.specs.declared.class.Subject.TheVariants.{Groups}
 use Rattle.script_form.specs.declared.script.Command.{Command}
 use Rattle.script_form.specs.declared.script.Command.TheVariants as script
 use Rattle.script_run.proofs.{Begin.begins-none, Between.order-other-law, InPhase.phase_other_law, PlaceFacts.begins_of-other}
@@ -131,6 +132,7 @@ begins-called : (with : Use) (h : List Dimension) (past : List Event) (c : Comma
 begins-called with h past (script.Insert new) session server call class b = absurd b
 begins-called with h past (script.Query question) session server call class b = absurd b
 begins-called with h past (script.Control called) session server call class b = b.0 ∙ ap (λ (c : Call). session_of_call with (class_of c)) (sym b.1) ∙ ap (session_of_call with) class
+begins-called with h past (script.Group dim level filter) session server call class b = absurd (let never : class_is.Page Groups ≡ class_is.Sync server = ap class_of (sym b.1.2) ∙ class in cc)
 
 -- where a cell is used again its actor has to do what it had
 reuse-keeps : (s : Setting) (n : ℕ) (w now : World) → Step s kind.Reuse n w now → does_nothing (now.actors n) ≡ does_nothing (w.actors n)

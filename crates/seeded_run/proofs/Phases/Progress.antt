@@ -224,6 +224,7 @@ module _ (s : Setting) (w : World) (g : Ghost) (rest : ℕ → List Command) (i 
       by-known (script.Query question) more at false due = here kind.Note due
       by-known (script.Control call) more at true due = here kind.Note due
       by-known (script.Control call) more at false due = here kind.Note due
+      by-known (script.Group dim level filter) more at known due = here kind.Note due
 
       by-closing : (c : Command) (more : List Command) → rest a ≡ c ∷ more → (closed alone : Bool) → closes c ≡ closed → is_alone s w rest a ≡ alone
           → due_by s w rest a ≡ (if closed && not alone then None else first_kind (desk_of s w (w.actors a).role) c (are_known s.hierarchy c)) → Goes a ⊎ Blocked a

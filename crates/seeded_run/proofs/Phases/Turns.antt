@@ -81,6 +81,20 @@ begins-session with h past (script.Control called) (event.Moved of shard worker)
 begins-session with h past (script.Control called) (event.Left of shard how) b = absurd b
 begins-session with h past (script.Control called) (event.Shown of page) b = absurd b
 begins-session with h past (script.Control called) (event.Ended of how) b = absurd b
+begins-session with h past (script.Group dim level names) (event.Synced server listing) b = absurd b
+begins-session with h past (script.Group dim level names) (event.Begun session server row) b = absurd b
+begins-session with h past (script.Group dim level names) (event.Acked of path) b = absurd b
+begins-session with h past (script.Group dim level names) (event.Asked session server filter) b = absurd b
+begins-session with h past (script.Group dim level names) (event.Answered of agg) b = absurd b
+begins-session with h past (script.Group dim level names) (event.Unknown session server unknown) b = ap Some b.0
+begins-session with h past (script.Group dim level names) (event.Failed of) b = absurd b
+begins-session with h past (script.Group dim level names) (event.Refused session) b = ap Some b
+begins-session with h past (script.Group dim level names) (event.Called session call) b = ap Some b.0
+begins-session with h past (script.Group dim level names) (event.Split of shard left right) b = absurd b
+begins-session with h past (script.Group dim level names) (event.Moved of shard worker) b = absurd b
+begins-session with h past (script.Group dim level names) (event.Left of shard how) b = absurd b
+begins-session with h past (script.Group dim level names) (event.Shown of page) b = absurd b
+begins-session with h past (script.Group dim level names) (event.Ended of how) b = absurd b
 
 some-is : (o : Option Kind) (k : Kind) (test : Kind → Bool) → o ≡ Some k → option_map_or test o false ≡ true → test k ≡ true
 some-is None k test is e = cc

@@ -43,6 +43,7 @@ pub session-low : (h : List Dimension) (with : Use) (c : Command) → MayRun h w
 session-low h with (script.Insert new) may = (let low = may.allowed in omega (arith, low))
 session-low h with (script.Query question) may = (let low = may.allowed.0 in omega (arith, low))
 session-low h with (script.Control called) may = called-low with (class_of called)
+session-low h with (script.Group dim level filter) may = omega arith
 
 -- where all of some commands may run, those behind the first ones may
 pub may-behind : (h : List Dimension) (with : Use) (done phase : List Command) → MayAllRun h with (done ++ phase) → MayAllRun h with phase

@@ -1,13 +1,15 @@
 -- Where the beginning of a command is due, the state has what its step asks; and what the step tells is that beginning.
-use Rattle.std.proofs.{Common.{ℕ, ℤ, ◌≡◌, ◌<◌, true, false, List, ◌∷◌, length, Option, Some, None, get_or, position, refl, sym, ap, ◌∙◌, subst}, lemmas.Option.get_or_from_slice_get}
+use Rattle.std.proofs.{Common.{Bor, ℕ, ℤ, ◌≡◌, ◌<◌, true, false, List, ◌∷◌, length, Option, Some, None, get_or, position, refl, sym, ap, ◌∙◌, subst}, lemmas.Option.get_or_from_slice_get}
 use Rattle.std.specs.{List.slice_index_or, Prelude.{⊤, is_none}}
-use Rattle.core_due.specs.Ready.{IsStateOf}
+use Rattle.core_due.specs.{Ready.IsStateOf, WorksReady.MayMakeNote}
 use Rattle.core_due.proofs.{BooksHeld.hold-ledger, Holding.{CanHoldAll, hold-three, hold-two, prepared}, InStates.may-make}
 use Rattle.core_pages.specs.core_image.specs.{Asking.CanBeginQuery, NotesDue.{CanBeginInsert, CanNoteAsking, CanNoteCalled, CanNoteRefused, CanNoteUnknown}, Told.{asked_by, begun_by, called_by, refused_by, unknown_by}}
-use Rattle.core_due.specs.core_steps.specs.{Begins.{begin_asks, begin_places}, Places.{numbers, one_at, two_at, values_at}, Steps.{IsSame, MayMake}, declared.begins.BeginStep.BeginStep}
+use Rattle.core_due.specs.core_steps.specs.{Begins.{begin_asks, begin_places}, Notes.note_asks, Places.{numbers, one_at, two_at, values_at}, Steps.{IsSame, MayMake}, declared.begins.BeginStep.BeginStep}
 use Rattle.core_due.specs.core_steps.specs.declared.begins.BeginStep.TheVariants as begin
-use Rattle.dim_hierarchy.specs.{Dimension.Dimension, Filter.{IsFilterNamed, IsFilterOf, picks}, Row.{IsCoordNamed, IsCoordOf}, declared.filter.Pick.Pick, declared.row.Coord.Coord}
-use Rattle.row_ledger.specs.{Classes.class_of, declared.event.Event.Event, declared.settings.Call.Call, declared.settings.Use.Use}
+use Rattle.core_due.specs.core_steps.specs.declared.notes.NoteStep.TheVariants as note
+use Rattle.dim_hierarchy.specs.{Dimension.Dimension, Filter.{IsFilterNamed, IsFilterOf, picks}, Row.{IsCoordNamed, IsCoordOf}, declared.filter.NamePick.NamePick, declared.filter.Pick.Pick, declared.row.Coord.Coord}
+use Rattle.row_ledger.specs.declared.settings.Call.TheVariants as call_is
+use Rattle.row_ledger.specs.{Classes.class_of, Groups.IsCallOf, declared.event.Event.Event, declared.settings.Call.Call, declared.settings.Use.Use}
 use Rattle.script_form.specs.{declared.script.Command.Command, declared.script.NewRow.NewRow, declared.script.Question.Question}
 use Rattle.script_form.specs.declared.script.Command.TheVariants as script
 use Rattle.script_run.specs.{Places.session_of, Runs.{Begins, first_unknown}}
@@ -114,7 +116,7 @@ module _ (h : List Dimension) (with : Use) (state : State) (core : HasCore h wit
   pub refused-asked : (c : Command) → IsToBegin h with state.cells.items state.actors.items n c → CanNoteRefused (w.cells ledger_cell) (w.actors n)
   refused-asked c b = record { free = (next-at c b).free; ledger_is = tag-is ledger_cell }
 
-  pub called-asked : (called : Call) → IsToBegin h with state.cells.items state.actors.items n (script.Control called) → asks_registry (class_of called) ≡ false → CanNoteCalled called (w.cells ledger_cell) (w.actors n)
+  pub called-asked : (called : Call) → IsToBegin h with state.cells.items state.actors.items n (script.Control called) → asks_registry (class_of called) ≡ false → CanNoteCalled s.hierarchy called (w.cells ledger_cell) (w.actors n)
   called-asked called b alone =
       let x = next-at (script.Control called) b in
       let about : s.servers ≡ (w.actors n).setting.servers = ap (λ (z : Setting). z.servers) (sym (core.is_core.inv.holds.numbering.about n)) in
@@ -122,9 +124,29 @@ module _ (h : List Dimension) (with : Use) (state : State) (core : HasCore h wit
         free = x.free;
         allowed = subst (λ r. MayCall r called) (sym x.role) (may-call called);
         alone = alone;
-        server = λ y is. subst (λ (m : ℕ). y < m) (sym core.is_core.servers ∙ about) (subst (IsAllowedCall with) is b.allowed);
+        server = λ y is. subst (λ (m : ℕ). y < m) (sym core.is_core.servers ∙ about) (subst (IsAllowedCall with) is b.allowed.0);
+        valid = subst (λ (g : List Dimension). IsCallOf g called) (sym core.is_core.hierarchy) b.allowed.1;
         ledger_is = tag-is ledger_cell;
       }
+
+  -- a call, wherever it is kept
+  abbrev kept : Call → Bor Call
+  kept call = record { ref_ptr = (0, 0); now = call }
+
+  -- a group is called with what its names stand for
+  pub group-may : (dim level : ℕ) (names : List NamePick) → IsToBegin h with state.cells.items state.actors.items n (script.Group dim level names) → (filter : List Pick) → IsFilterNamed h names filter
+      → MayMakeNote h state n (note.Called (kept (call_is.Group dim level filter)))
+  group-may dim level names b filter named =
+      let x = next-at (script.Group dim level names) b in
+      let can : CanNoteCalled s.hierarchy (call_is.Group dim level filter) (w.cells ledger_cell) (w.actors n) = record {
+        free = x.free;
+        allowed = subst (λ r. MayCall r (call_is.Group dim level filter)) (sym x.role) tt;
+        alone = refl;
+        server = λ y is. cc;
+        valid = subst (λ (g : List Dimension). IsCallOf g (call_is.Group dim level filter)) (sym core.is_core.hierarchy) (record { filter = named.valid; dim = b.allowed.0; level = b.allowed.1 });
+        ledger_is = tag-is ledger_cell;
+      } in
+      noting (script.Group dim level names) b (note_asks (note.Called (kept (call_is.Group dim level filter)))) can
 
   pub asking-asked : (called : Call) → IsToBegin h with state.cells.items state.actors.items n (script.Control called) → asks_registry (class_of called) ≡ true → CanNoteAsking called with.workers (w.cells registry_cell) (w.cells ledger_cell) (w.actors n)
   asking-asked called b asks =
@@ -177,10 +199,16 @@ module _ (h : List Dimension) (with : Use) (state : State) (core : HasCore h wit
         by (script.Insert new) first past a place number role = (number, ap server_of role, first)
         by (script.Query question) first past a place number role = (number, ap server_of role, first)
         by (script.Control called) first past a place number role = (number, ap server_of role ∙ no-server (class_of called), first)
+        by (script.Group dim level filter) first past a place number role = (number, ap server_of role, first)
 
     pub begun-call : (called : Call) → c ≡ script.Control called → Adds (called_by called) now → GoesBy with h c state.cells.items state.actors.items now.cells.items now.actors.items
     begun-call called is adds = begun (called_by called) adds (λ past a place number role.
         subst (λ (x : Command). Begins with h past x (called_by called a place)) (sym is) (number ∙ ap (session_of with) is, refl))
+
+    pub begun-group : (dim level : ℕ) (names : List NamePick) → c ≡ script.Group dim level names → (filter : List Pick) → IsFilterNamed h names filter → Adds (called_by (call_is.Group dim level filter)) now
+        → GoesBy with h c state.cells.items state.actors.items now.cells.items now.actors.items
+    begun-group dim level names is filter named adds = begun (called_by (call_is.Group dim level filter)) adds (λ past a place number role.
+        subst (λ (x : Command). Begins with h past x (called_by (call_is.Group dim level filter) a place)) (sym is) (number ∙ ap (session_of with) is, (filter, named, refl)))
 
     pub begun-refused : may_be_refused c ≡ true → Adds refused_by now → GoesBy with h c state.cells.items state.actors.items now.cells.items now.actors.items
     begun-refused may adds = begun refused_by adds (λ past a place number role. by c may past a place number)
@@ -189,6 +217,7 @@ module _ (h : List Dimension) (with : Use) (state : State) (core : HasCore h wit
         by (script.Insert new) may past a place number = number
         by (script.Query question) may past a place number = number
         by (script.Control called) may past a place number = (number, may)
+        by (script.Group dim level filter) may past a place number = number
 
 -- Where the state stayed as it was.
 module _ (h : List Dimension) (with : Use) (state now : State) (core : HasCore h with state.cells.items state.actors.items) (same : IsSame state now) (n : ℕ) (c : Command) where
