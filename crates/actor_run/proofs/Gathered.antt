@@ -6,12 +6,12 @@ use mathlib.Core.Logic.{dite}
 use mathlib.Core.Option.{none, some, some-injective}
 use native.Mathlib.Decide.{ℕ_discrete, dec_lt}
 use Rattle.actor_run.proofs.{Closing.has-all, Missing.none-missing, Taken.some-cells, Seated.{below-count, is, is-actor, none-held, none-since, right-whole, role-of, setting-of, still-at}}
-use Rattle.actor_run.specs.{Halls.is_admin, Passes.{AreAllIn, ArePasses, HasAdmin, IsAbout, IsAdminOf, IsAt, IsIn, IsPassesOf, PassesValue, gone_of, in_seat, missing, passes_of}, Wholes.{AddsNothing, AreToldBy, EndsIn, HaveGoneOn, HaveSettledSo, is_admin_at}}
+use Rattle.actor_run.specs.{Halls.is_admin, Passes.{AreAllIn, ArePasses, HasAdmin, IsAbout, IsAdminOf, IsAt, IsIn, IsPassesOf, PassesValue, gone_of, in_seat, missing, passes_of}, Wholes.{AddsNothing, AreToldBy, EndsIn, EndsUnknown, HaveGoneOn, HaveSettledSo, is_admin_at}}
 use Rattle.atomic_table.specs.Seated.{TableId}
 use Rattle.whole_steps.specs.call_steps.proofs.OpenCalls.{extends-length}
 use Rattle.whole_steps.specs.call_steps.specs.Calls.{CanCall}
 use Rattle.list_words.proofs.Elements.{Some-same}
-use Rattle.row_ledger.specs.{Classes.class_of, Right.IsRight, Site.Site, declared.class.Class.Class, declared.class.Subject.Subject, declared.event.Event.Event, declared.event.Event.TheVariants.{Called, Ended, Shown}, declared.settings.Call.Call}
+use Rattle.row_ledger.specs.{Classes.class_of, Groups.IsCallOf, Right.IsRight, Site.Site, declared.class.Class.Class, declared.class.Subject.Subject, declared.event.Event.Event, declared.event.Event.TheVariants.{Called, Ended, Shown, Unknown}, declared.settings.Call.Call}
 use Rattle.row_ledger.specs.declared.class.Class.TheVariants as class
 use Rattle.row_ledger.specs.declared.settings.Call.TheVariants.{Settle}
 use Rattle.row_ledger.specs.declared.settings.Decline.TheVariants as decline
@@ -19,11 +19,11 @@ use Rattle.row_ledger.specs.declared.settings.How.TheVariants as how
 use Rattle.whole_steps.specs.seat_steps.proofs.Since.{extends-on}
 use Rattle.whole_steps.specs.seat_steps.specs.declared.floor.{Floor.Floor, Player.Player}
 use Rattle.turn_table.specs.{Numbered.{Extends, numbers_of, value_of}, Seat.{SeatValue, cell_count}}
-use Rattle.whole_steps.specs.volap_cell.specs.{Commands.{MayCall, MayCallAs}, Setting.{Setting, actor_count, ledger_cell, site_in}, Sights.IsIdle, Values.{ActorValue, actor_of}, declared.actor.Actor.Actor, declared.cell.Cell.Cell, declared.role.Role.Role, declared.role.Role.TheVariants.{Admin, Hand, Puller, Session}}
+use Rattle.whole_steps.specs.volap_cell.specs.{Commands.{MayCall, MayCallAs, server_of}, ImageKinds.IsFree, Setting.{Setting, actor_count, ledger_cell, site_in}, Sights.IsIdle, Values.{ActorValue, actor_of}, declared.actor.Actor.Actor, declared.cell.Cell.Cell, declared.role.Role.Role, declared.role.Role.TheVariants.{Admin, Hand, Puller, Session}}
 use Rattle.script_run.specs.Places.{begins_of}
 use Rattle.whole_steps.specs.volap_turns.specs.Worlds.{past}
 use Rattle.whole_steps.proofs.Alone.{everyone-of, idle-keeps, idle-none}
-use Rattle.whole_steps.specs.{Done.{HasDone, HasNotBegun, HasPaged, IsDoneSole}, Seats.{HasEveryone, HasTurned}, Settles.HasSettledCall, Sole.{IsSameBut, StandsSole, player}}
+use Rattle.whole_steps.specs.{Done.{HasDone, HasNotBegun, HasNotedUnknown, HasPaged, IsDoneSole}, Seats.{HasEveryone, HasTurned}, Settles.HasSettledCall, Sole.{IsSameBut, StandsSole, player}}
 use Rattle.whole_steps.specs.declared.settles.Settled.{Settled}
 use Rattle.whole_steps.specs.declared.settles.Settled.TheVariants as settled
 use Rattle.whole_steps.specs.declared.tells.Paged.{Paged}
@@ -55,6 +55,10 @@ pub record IsBack (f : Floor) (was now : Player) : Type 0 where
   pub same : IsSameBut was now
   pub idle : IsIdle (actor_of was.actor) → IsIdle (actor_of now.actor)
   pub noted : (actor_of now.actor).seen ≤ length now.seat.view.seen
+
+-- an actor that is in does nothing
+pub free-in : {about : Setting} {s : S} {n : ℕ} {x : Actor} → IsIn about s n x → IsFree (actor_of x)
+free-in it = record { command = it.idle.command; errand = it.idle.errand; job = it.idle.job }
 
 is-back : {f : Floor} {was now : Player} → IsDoneSole f was now → IsBack f was now
 is-back done = record {
@@ -115,11 +119,12 @@ module _ {s : S} {own : Actor} {actors : List (Option Actor)} (are : ArePasses s
     }
 
     -- the administrator makes these calls
-    pub can-call : (actor_of x).role ≡ Admin → (call : Call) → MayCall Admin call → ((k : ℕ) → class_of call ≡ class.Sync k → ⊥) → CanCall f call (player n x s)
-    can-call role call may other = record {
-      free = record { command = it.idle.command; errand = it.idle.errand; job = it.idle.job };
+    pub can-call : (actor_of x).role ≡ Admin → (call : Call) → MayCall Admin call → ((k : ℕ) → class_of call ≡ class.Sync k → ⊥) → IsCallOf f.hierarchy call → CanCall f call (player n x s)
+    can-call role call may other valid = record {
+      free = free-in it;
       allowed = subst (λ (r : Role). MayCall r call) (sym role) may;
       server = λ k e. absurd (other k e);
+      valid = valid;
       noted = it.noted;
     }
 
@@ -335,6 +340,41 @@ module _ (f : Floor) (call : Call) (n : ℕ) (x y : Actor) (s t : S) where
       pub barrier-none : (r : Result T E) → OnErr r (HasNotBegun f (player n x s) (player n y t)) → OnErr r (AddsNothing (passes_of s own actors) (passes_of t own_now now))
       barrier-none (Ok z) none_done = tt
       barrier-none (Err z) none_done = adds-nothing own own_now actors now admin none_done
+
+-- A note of a command that names what isn't known.
+
+module _ (f : Floor) (dim n : ℕ) (x y : Actor) (s t : S) {T E : Type 0} (r : Result T E) (noted : OnOk r (HasNotedUnknown f dim (player n x s) (player n y t))) (none_noted : OnErr r (HasNotBegun f (player n x s) (player n y t))) where
+  abbrev P : Type 0
+  P = HasNotedUnknown f dim (player n x s) (player n y t)
+
+  pub noted-done : IsBack f (player n x s) (player n y t)
+  noted-done = by r noted none_noted
+    where
+      by : (r : Result T E) → OnOk r P → OnErr r (HasNotBegun f (player n x s) (player n y t)) → IsBack f (player n x s) (player n y t)
+      by (Ok z) has none_done = is-back has.done
+      by (Err z) has none_done = is-back none_done.done
+
+  pub noted-later : Extends t.view.seen s.view.seen
+  noted-later = by r noted none_noted
+    where
+      by : (r : Result T E) → OnOk r P → OnErr r (HasNotBegun f (player n x s) (player n y t)) → Extends t.view.seen s.view.seen
+      by (Ok z) has none_done = extends-on t.view.seen has.older s.view.seen (Unknown n (server_of (actor_of x).role) dim ∷ [], has.seen) has.since
+      by (Err z) has none_done = none_done.since
+
+  module _ (own own_now : Actor) (actors now : List (Option Actor)) (admin : IsAdminOf (actor_of own).setting n) where
+    pub noted-so : (actor_of x).role ≡ Admin → OnOk r (EndsUnknown dim (passes_of s own actors) (passes_of t own_now now))
+    noted-so role = by r noted
+      where
+        by : (r : Result T E) → OnOk r P → OnOk r (EndsUnknown dim (passes_of s own actors) (passes_of t own_now now))
+        by (Ok z) has = record { number = n; admin = admin; older = has.older; since = has.since; only = has.only; seen = has.seen ∙ ap (λ (z : Role). Unknown n (server_of z) dim ∷ has.older) role }
+        by (Err z) has = tt
+
+    pub noted-none : OnErr r (AddsNothing (passes_of s own actors) (passes_of t own_now now))
+    noted-none = by r none_noted
+      where
+        by : (r : Result T E) → OnErr r (HasNotBegun f (player n x s) (player n y t)) → OnErr r (AddsNothing (passes_of s own actors) (passes_of t own_now now))
+        by (Ok z) none_done = tt
+        by (Err z) none_done = record { number = n; admin = admin; only = none_done.only }
 
 -- A settle.
 

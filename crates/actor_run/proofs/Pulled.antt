@@ -20,6 +20,7 @@ module _ (f : Floor) (server : ℕ) (was : Player) (s : IsSession f server was) 
     free = s.free;
     allowed = subst (λ (r : Role). MayCall r (CallsSync server)) (sym s.role) refl;
     server = λ x is. subst (λ (n : ℕ). n < f.with.servers) (ap server_in is) (server-below f was s.stands.seated server s.role);
+    valid = tt;
     noted = s.noted;
   }
 

@@ -1,11 +1,14 @@
 -- Calls for which all passes of a hall are in: what they come to. The newest event comes first.
-use Rattle.std.specs.Prelude.{ℕ, ◌≡◌, ◌+◌, ◌<◌, ◌⊎◌, Bool, false, List, [], ◌∷◌, ◌++◌, length, Option, Some, None}
+use Rattle.std.specs.Prelude.{ℕ, ◌≡◌, ◌+◌, ◌<◌, ◌⊎◌, Bool, false, List, [], ◌∷◌, ◌++◌, length, position, is_none, Option, Some, None}
 use Rattle.actor_run.specs.{Halls.is_admin, Passes.{AreAllIn, IsAdminOf, IsPassesOf, PassesValue}}
+use Rattle.actor_run.specs.declared.whole.GroupFault.{GroupFault}
+use Rattle.actor_run.specs.declared.whole.GroupFault.TheVariants as group_fault
 use Rattle.actor_run.specs.declared.whole.TreeFault.{TreeFault}
 use Rattle.actor_run.specs.declared.whole.TreeFault.TheVariants as fault
+use Rattle.dim_hierarchy.specs.{Filter.{IsFilterNamed, picks}, declared.filter.{NamePick.NamePick, Pick.Pick}}
 use Rattle.row_ledger.specs.{Right.IsRight, Site.site_of, declared.event.Event.Event, declared.page.Page.Page, declared.settings.Call.Call}
-use Rattle.row_ledger.specs.declared.event.Event.TheVariants.{Called, Ended, Shown}
-use Rattle.row_ledger.specs.declared.settings.Call.TheVariants.{Settle}
+use Rattle.row_ledger.specs.declared.event.Event.TheVariants.{Called, Ended, Shown, Unknown}
+use Rattle.row_ledger.specs.declared.settings.Call.TheVariants.{Group, Settle}
 use Rattle.row_ledger.specs.declared.settings.Decline.TheVariants as decline
 use Rattle.row_ledger.specs.declared.settings.How.TheVariants as how
 use Rattle.script_run.specs.Places.{begins_of}
@@ -92,6 +95,45 @@ AreToldBy f call paged.NotBegun was now = AddsNothing was now
 abbrev pub IsTreeFault : TreeFault → Call → PassesValue → PassesValue → Type 0
 IsTreeFault fault.Unknown call was now = IsNoneThere call was now
 IsTreeFault fault.NoMemory call was now = IsNoMemory call was now
+
+-- Groups: calls with a filter for which names are given.
+
+-- The newest event notes that a command of the administrator names what isn't known, first in this dimension. Before it stands what had been
+-- seen, or more, in which the administrator has begun nothing else.
+pub record EndsUnknown (dim : ℕ) (was now : PassesValue) : Type 0 where
+  pub number : ℕ
+  pub admin : IsAdminOf was.setting number
+  pub older : List Event
+  pub since : Extends older was.seen
+  pub only : begins_of older number ≡ begins_of was.seen number
+  pub seen : now.seen ≡ Unknown number 0 dim ∷ older
+
+-- so it is noted of these names
+pub record HaveNotedUnknown (f : Floor) (names : List NamePick) (dim : ℕ) (was now : PassesValue) : Type 0 where
+  pub first : position is_none (picks f.hierarchy names) ≡ Some dim
+  pub ends : EndsUnknown dim was now
+
+-- the call with the filter of these names
+pub record IsGroupNamed (f : Floor) (dim level : ℕ) (names : List NamePick) (call : Call) : Type 0 where
+  pub filter : List Pick
+  pub named : IsFilterNamed f.hierarchy names filter
+  pub call_is : call ≡ Group dim level filter
+
+-- the page of the group was shown
+abbrev pub HaveShownGroup : Floor → (dim level : ℕ) → List NamePick → Page → PassesValue → PassesValue → Type 0
+HaveShownGroup f dim level names shown was now = (call : Call) × IsGroupNamed f dim level names call × HaveShown f call shown was now
+
+-- what a group comes to whose names are known
+abbrev pub AreToldGroup : Floor → (dim level : ℕ) → List NamePick → Paged → PassesValue → PassesValue → Type 0
+AreToldGroup f dim level names (paged.Page shown) was now = HaveShownGroup f dim level names shown was now
+AreToldGroup f dim level names paged.Unknown was now = ⊥
+AreToldGroup f dim level names paged.Failed was now = (call : Call) × IsGroupNamed f dim level names call × EndsIn call (λ of. Ended of how.NoMemory ∷ []) was now
+AreToldGroup f dim level names paged.NotBegun was now = AddsNothing was now
+
+-- why a group isn't shown
+abbrev pub IsGroupFault : GroupFault → Floor → (dim level : ℕ) → List NamePick → PassesValue → PassesValue → Type 0
+IsGroupFault (group_fault.Unknown unknown) f dim level names was now = HaveNotedUnknown f names unknown was now
+IsGroupFault group_fault.NoMemory f dim level names was now = AddsNothing was now ⊎ ((call : Call) × IsGroupNamed f dim level names call × EndsIn call (λ of. Ended of how.NoMemory ∷ []) was now)
 
 -- Settles.
 

@@ -8,7 +8,7 @@
 //! one. A query over everything counts at most four steps for each shard that was ever made and for each move
 //! (`steps`). A `Cursor` takes a query block by block.
 //!
-//! While all passes are in, `shards`, `tree`, `audit`, `barrier` and `settle` are calls of the whole hall
+//! While all passes are in, `shards`, `tree`, `audit`, `group`, `barrier` and `settle` are calls of the whole hall
 //! (`on`). Where memory is wanting a call tells so. That a call returns is not proved: it waits for other
 //! threads.
 #![tactic(auto)]
@@ -35,7 +35,7 @@ pub use of_part_steps::Steps;
 pub use passes::{Pass, Passes};
 pub use session::{Asked, Inserted, Session, Synced};
 pub use turn_table::Busy;
-pub use whole::TreeFault;
+pub use whole::{GroupFault, TreeFault};
 pub use whole_steps::ReadsHistory;
 
 // What is passed on of the libraries below.

@@ -8,7 +8,7 @@ use Rattle.session_steps.specs.core_steps.specs.{Books.{book_asks, book_places},
 use Rattle.session_steps.specs.core_steps.specs.declared.books.BookStep.TheVariants as book
 use Rattle.session_steps.specs.core_steps.specs.declared.notes.NoteStep.TheVariants as note
 use Rattle.dim_hierarchy.specs.Dimension.{Dimension}
-use Rattle.row_ledger.specs.{Classes.class_of, declared.class.Class.Class, declared.settings.{Call.Call, How.How}}
+use Rattle.row_ledger.specs.{Classes.class_of, Groups.IsCallOf, declared.class.Class.Class, declared.settings.{Call.Call, How.How}}
 use Rattle.row_ledger.specs.declared.class.Class.TheVariants as class
 use Rattle.session_steps.specs.seat_steps.proofs.Around.{around}
 use Rattle.session_steps.specs.seat_steps.specs.{Booked.IsDue, Floors.{IsAround, IsSeated}, declared.floor.{Floor.Floor, Player.Player}}
@@ -63,12 +63,13 @@ module _ (f : Floor) (p : Player) where
     allowed : MayCall (w.actors p.number).role call
     allowed = subst (λ (a : ActorValue). MayCall a.role call) (sym is.actor) can.allowed
 
-    pub called-asked : asks_registry (class_of call) ≡ false → CanNoteCalled call (w.cells ledger_cell) (w.actors p.number)
+    pub called-asked : asks_registry (class_of call) ≡ false → CanNoteCalled s.hierarchy call (w.cells ledger_cell) (w.actors p.number)
     called-asked alone = record {
       free = free;
       allowed = allowed;
       alone = alone;
       server = λ x e. subst (λ (k : ℕ). x < k) (sym is.servers ∙ ap (λ (t : Setting). t.servers) (sym about)) (can.server x e);
+      valid = subst (λ (hs : List Dimension). IsCallOf hs call) (sym is.about) can.valid;
       ledger_is = is.inv.holds.numbering.tag ledger_cell;
     }
 

@@ -2,7 +2,7 @@
 use Rattle.std.specs.Prelude.{ℕ, ◌≡◌, ◌≤◌, ◌<◌, List, length, Option, Some, None, false}
 use Rattle.session_steps.specs.core_image.specs.{NotesDue.MayBeLeft, Told.called_by}
 use Rattle.describing_set.specs.declared.listing.Spot.{Spot}
-use Rattle.row_ledger.specs.{Classes.class_of, declared.event.Event.Event, declared.settings.{Call.Call, How.How}}
+use Rattle.row_ledger.specs.{Classes.class_of, Groups.IsCallOf, declared.event.Event.Event, declared.settings.{Call.Call, How.How}}
 use Rattle.row_ledger.specs.declared.class.Class.TheVariants as class
 use Rattle.row_ledger.specs.declared.event.Event.TheVariants as event
 use Rattle.session_steps.specs.seat_steps.specs.{Booked.HasPushed, declared.floor.{Floor.Floor, Player.Player}}
@@ -23,6 +23,7 @@ pub record CanCall (f : Floor) (call : Call) (p : Player) : Type 0 where
   pub free : IsFree (actor_of p.actor)
   pub allowed : MayCall (actor_of p.actor).role call
   pub server : (x : ℕ) → class_of call ≡ class.Sync x → x < f.with.servers
+  pub valid : IsCallOf f.hierarchy call
   pub noted : (actor_of p.actor).seen ≤ length p.seat.view.seen
 
 -- the work and the job with which the call begins; what stands then is what some registry has

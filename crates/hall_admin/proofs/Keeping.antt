@@ -10,9 +10,9 @@ use Rattle.job_steps.specs.core_image.specs.Told.{refused_by}
 use Rattle.dim_hierarchy.specs.Dimension.{Dimension}
 use Rattle.hall_admin.specs.{Callers.{IsCaller, StaysCaller}, Jobs.IsOfJob, Pulls.TriesSync, declared.puller.Synced.Synced}
 use Rattle.row_ledger.proofs.Positions.{event_at-here}
-use Rattle.row_ledger.specs.{Classes.class_of, Past.event_at, Right.IsRight, Site.{Site, site_of}, declared.class.Class.Class, declared.event.Event.Event, declared.settings.{Call.Call, How.How}}
+use Rattle.row_ledger.specs.{Classes.class_of, Groups.IsCallOf, Past.event_at, Right.IsRight, Site.{Site, site_of}, declared.class.Class.Class, declared.event.Event.Event, declared.settings.{Call.Call, How.How}}
 use Rattle.row_ledger.specs.declared.class.Class.TheVariants as class
-use Rattle.row_ledger.specs.declared.{event.Event.TheVariants.Refused, settings.Call.TheVariants.Sync}
+use Rattle.row_ledger.specs.declared.{event.Event.TheVariants.Refused, settings.Call.TheVariants.{Group, Sync}}
 use Rattle.row_ledger.specs.declared.settings.How.TheVariants as how_it
 use Rattle.script_run.proofs.{Begin.begins-own, PlaceFacts.begins_of-here}
 use Rattle.script_run.specs.Places.{begins_of}
@@ -224,12 +224,18 @@ module _ (f : Floor) (role : Role) (was now : Player) where
 
 -- What it may call.
 
+-- the calls of jobs name nothing
+of-job : (h : List Dimension) (call : Call) → IsOfJob (class_of call) → IsCallOf h call
+of-job h (Group dim level filter) kind = absurd kind
+of-job h call kind = tt
+
 module _ (f : Floor) (p : Player) where
   pub admin-can : (call : Call) → IsCaller f is_role.Admin p → IsOfJob (class_of call) → CanCall f call p
   admin-can call c kind = record {
     free = caller-free f is_role.Admin p c;
     allowed = subst (λ (r : Role). MayCall r call) (sym c.role_is) (may-call (class_of call) kind);
     server = λ x e. absurd (subst IsOfJob e kind);
+    valid = of-job f.hierarchy call kind;
     noted = c.pass.noted;
   }
 
@@ -238,5 +244,6 @@ module _ (f : Floor) (p : Player) where
     free = caller-free f is_role.Puller p c;
     allowed = subst (λ (r : Role). MayCall r (Sync server)) (sym c.role_is) tt;
     server = λ x e. (let same : server ≡ x = cc in subst (λ (n : ℕ). n < f.with.servers) same low);
+    valid = tt;
     noted = c.pass.noted;
   }

@@ -76,6 +76,17 @@ all-in opened one_out two_out one_in now a b c d all take_a take_b number_c numb
         let fourth : count_by (λ x. x == k) one_in.out ≡ count_by (λ x. x == k) now.out + (if k == 1 then 1 else 0) = give_d.out k ∙ ap (λ n. count_by (λ x. x == k) now.out + (if k == n then 1 else 0)) number_d in
         omega (arith, before, first, second, third, fourth)
 
+-- where one pass was taken and is given back, all are in
+pub one-in : (opened out now : PassesValue) (a b : PassValue) → AreAllIn opened → HasTaken 0 opened out a → b.number ≡ 0 → HasGiven b out now → AreAllIn now
+one-in opened out now a b all take number give = none-out now.out none
+  where
+    none : (k : ℕ) → count_by (λ x. x == k) now.out ≡ 0
+    none k =
+        let before : count_by (λ x. x == k) opened.out ≡ 0 = ap (λ (l : List ℕ). count_by (λ x. x == k) l) all in
+        let first = take.out k in
+        let second : count_by (λ x. x == k) out.out ≡ count_by (λ x. x == k) now.out + (if k == 0 then 1 else 0) = give.out k ∙ ap (λ n. count_by (λ x. x == k) now.out + (if k == n then 1 else 0)) number in
+        omega (arith, before, first, second)
+
 -- the roles of an open hall
 settled : (h : List Dimension) (cells : ℕ) (roles : List Role) (f : Floor) (opened : PassesValue) → roles ≡ two_sessions → HasOpened h (two_servers cells) roles f opened → opened.setting.roles ≡ two_sessions ++ Admin ∷ []
 settled h cells roles f opened are is_open = ap (λ (x : Setting). x.roles) is_open.setting ∙ ap (λ (l : List Role). l ++ own_role l ∷ []) are

@@ -5,10 +5,13 @@
 //! `count_on_two_threads` opens a hall with a session of each of two servers, has both do this at the same
 //! time, and closes it: the history of the state that is left is right, and has what both tell (`both`).
 //!
-//! Its two tests insert 100 rows by each session: each answer is of at least 100 rows and at most 200, and
-//! the steps of a query for all rows are at most 4. That a call returns is tested only.
+//! Two tests insert 100 rows by each session: each answer is of at least 100 rows and at most 200, and the
+//! steps of a query for all rows are at most 4. A third asks for the rows of each of two towns, and of a ware
+//! that is not known. That a call returns is tested only.
 #![tactic(auto)]
 
+#[cfg(test)]
+mod group_tests;
 #[cfg(test)]
 mod tests;
 mod two;

@@ -16,7 +16,7 @@ use std::sync::Wait;
 use std::thread::{Threads, join};
 
 /// A session of each of two servers.
-fn two_sessions(alloc: Global) -> Result<RoleList, AllocError>
+pub(crate) fn two_sessions(alloc: Global) -> Result<RoleList, AllocError>
     ensures { IfOk result (λ roles. roles ≡ two_sessions) }
 {
     let mut roles = RoleList::new(alloc);
@@ -26,7 +26,7 @@ fn two_sessions(alloc: Global) -> Result<RoleList, AllocError>
 }
 
 /// Two servers and a worker.
-fn two_servers(cells: u32) -> Use
+pub(crate) fn two_servers(cells: u32) -> Use
     ensures { result ≡ two_servers cells }
 {
     Use {

@@ -5,7 +5,7 @@ use Rattle.hall_hands.specs.actor_run.specs.{Passes.{IsPass, IsPassOf, PassValue
 use Rattle.hall_admin.specs.Callers.{BecomesCaller, CallerValue, caller_of}
 use Rattle.hall_hands.specs.Hands.{BecomesHand, HandValue, HasServedAll}
 use Rattle.row_ledger.specs.{Classes.class_of, declared.class.Class.Class, declared.class.Class.TheVariants.Sync, declared.event.Event.Event, declared.settings.Use.Use}
-use Rattle.script_form.specs.declared.script.{Command.Command, Command.TheVariants.{Control, Insert, Query}}
+use Rattle.script_form.specs.declared.script.{Command.Command, Command.TheVariants.{Control, Group, Insert, Query}}
 use Rattle.script_run.specs.Places.{begins_of, session_of as session_of_command, session_of_call}
 use Rattle.hall_hands.specs.seat_steps.specs.declared.floor.{Floor.Floor, Player.Player}
 use Rattle.session_runs.specs.Sessions.{BeginsNothing, DoesInTurn, stream_of}
@@ -35,6 +35,7 @@ session-low : (f : Floor) (c : Command) → FitsFloor f c → session_of_command
 session-low f (Insert new) fits = (let low = fits.0 in omega (arith, low))
 session-low f (Query question) fits = (let low = fits.0 in omega (arith, low))
 session-low f (Control call) fits = call-low f.with (class_of call)
+session-low f (Group dim level filter) fits = omega arith
 
 pub no-stream : (f : Floor) (n : ℕ) (commands : List Command) → f.with.servers + 1 < n → AllFit f commands → stream_of f.with commands n ≡ []
 no-stream f n [] behind fit = refl

@@ -1,21 +1,23 @@
 -- The command that closes a phase, with nothing beside it.
 use Rattle.std.proofs.{Common.{◌≡◌, ◌≢◌, ◌∙◌, ℕ, zero, suc, ◌+◌, ◌<◌, ◌≤◌, Bool, true, false, cond, List, [], ◌∷◌, ◌++◌, length, take, slice_get, Some, Result, Ok, Err, IfSome, inl, inr, refl, sym, ap, subst, arith}, lemmas.Bool.{cases_lt, false≢true, ne_eqb}, lemmas.Option.slice_get_within}
 use Rattle.std.specs.Prelude.{◌==◌, IsTrue, OnErr, OnOk, option_and_then}
-use Rattle.hall_hands.specs.actor_run.specs.{Passes.{IsAdminOf, PassesValue}, Wholes.{AddsNothing, AreToldBy, EndsIn, HaveGoneOn, HaveReused, HaveSettledSo}}
+use Rattle.dim_hierarchy.specs.declared.filter.NamePick.{NamePick}
+use Rattle.hall_hands.specs.actor_run.specs.{Passes.{IsAdminOf, PassesValue}, Wholes.{AddsNothing, AreToldBy, AreToldGroup, EndsIn, HaveGoneOn, HaveNotedUnknown, HaveReused, HaveSettledSo, IsGroupNamed}}
 use Rattle.hall_hands.specs.core_told.proofs.Pulled.{pulled-more, pulled-none, settle-next, twice-length}
-use Rattle.row_ledger.specs.{Classes.class_of, Past.{call_at, call_in, event_at, is_over}, Right.IsRight, Settled.{pulls_since, settle_pulls}, Site.site_of, declared.class.Subject.Subject, declared.event.Event.Event, declared.page.Page.Page, declared.settings.{Call.Call, How.How, Use.Use}}
+use Rattle.row_ledger.proofs.Positions.{event_at-here}
+use Rattle.row_ledger.specs.{Classes.class_of, Past.{before, call_at, call_in, event_at, is_over}, Right.IsRight, Settled.{pulls_since, settle_pulls}, Site.site_of, declared.class.Subject.Subject, declared.event.Event.Event, declared.page.Page.Page, declared.settings.{Call.Call, How.How, Use.Use}}
 use Rattle.row_ledger.specs.declared.class.Class.TheVariants as class
-use Rattle.row_ledger.specs.declared.event.Event.TheVariants.{Called, Ended, Shown, Synced}
+use Rattle.row_ledger.specs.declared.event.Event.TheVariants.{Called, Ended, Shown, Synced, Unknown}
 use Rattle.row_ledger.specs.declared.settings.Call.TheVariants.{Barrier, Settle, Sync}
 use Rattle.row_ledger.specs.declared.settings.How.TheVariants as how_it
-use Rattle.script_form.specs.declared.script.{Command.Command, Command.TheVariants.Control}
+use Rattle.script_form.specs.declared.script.{Command.Command, Command.TheVariants.{Control, Group}}
 use Rattle.script_run.proofs.{Begin.begins-own, PlaceFacts.{begins_of-here, begins_of-other}}
-use Rattle.script_run.specs.{Phases.is_closing, Places.{begins_of, session_of, session_of_call}, Runs.{ArePulls, HasPulls, PullsAlone, is_pulling}}
+use Rattle.script_run.specs.{Phases.is_closing, Places.{begins_of, session_of, session_of_call}, Runs.{ArePulls, Begins, HasPulls, PullsAlone, is_pulling}}
 use Rattle.hall_hands.specs.seat_steps.specs.declared.floor.Floor.{Floor}
 use Rattle.session_runs.proofs.Pulls.{plain-pulls}
 use Rattle.session_runs.specs.Sessions.{BeginsNothing, DoesCommand, DoesInTurn, EachDoes, EndsWithPulls, stream_of}
 use Rattle.hall_hands.specs.session_steps.proofs.Grown.{at-pushed}
-use Rattle.threaded_run.proofs.{Called.{admin-calls, ends-pulled}, Done.over-here, Turns.does-own}
+use Rattle.threaded_run.proofs.{Called.{admin-calls, ends-pulled}, Done.{over-here, over-itself, unpulled}, Turns.does-own}
 use Rattle.script_roles.specs.Roles.{IsNumbered}
 use Rattle.threaded_run.specs.Phases.{AreBack, ArePhased}
 use Rattle.script_roles.specs.volap_cell.specs.{Setting.{Setting, actor_count}, declared.role.{Role.Role, Role.TheVariants.{Admin, Puller}}}
@@ -116,7 +118,28 @@ module _ (f : Floor) (was now : PassesValue) (phased : ArePhased f was) (on : Ha
     ]
   ]
 
-  module _ (call : Call) (closes : is_closing (class_of call) ≡ true) (events : ℕ → List Event) (ends : EndsIn call events was now) (how : How) (between : List Event)
+  -- a command of the administrator is done, and no other
+  each-one : (c : Command) (number : ℕ) → session_of f.with c ≡ f.with.servers + 1 → IsAdminOf was.setting number → DoesCommand f.with f.hierarchy number c was.seen now.seen
+      → EachDoes f.with f.hierarchy (c ∷ []) was.seen now.seen
+  each-one c number own at does session = elim (cases_lt session (f.with.servers + 1)) [
+    | inl low ↦ other-does session (λ e. omega (arith, low, e))
+    | inr high ↦ elim (cases_lt (f.with.servers + 1) session) [
+      | inl above ↦ other-does session (λ e. omega (arith, above, e))
+      | inr here ↦
+          let admin = admin-is number at in
+          let same : number ≡ session = omega (arith, high, here, admin) in
+          does-own f.with f.hierarchy session c was.seen now.seen (own ∙ sym admin ∙ same) (subst (λ (n : ℕ). DoesCommand f.with f.hierarchy n c was.seen now.seen) same does)
+    ]
+  ]
+    where
+      other-does : (n : ℕ) → n ≢ f.with.servers + 1 → DoesInTurn f.with f.hierarchy n (stream_of f.with (c ∷ []) n) was.seen now.seen
+      other-does n differs =
+          let apart : (session_of f.with c == n) ≡ false = ne_eqb (session_of f.with c) n (λ e. differs (sym e ∙ own)) in
+          subst (λ (l : List Command). DoesInTurn f.with f.hierarchy n l was.seen now.seen) (sym (ap (λ (b : Bool). cond b (c ∷ []) []) apart)) (else-nothing n differs)
+
+  -- A command that begins with a call.
+  module _ (c : Command) (of_admin : session_of f.with c ≡ f.with.servers + 1) (call : Call) (events : ℕ → List Event) (ends : EndsIn call events was now)
+      (begins : (past : List Event) → Begins f.with f.hierarchy past c (Called ends.number call)) (how : How) (between : List Event)
       (is : events (length ends.older) ≡ Ended (length ends.older) how ∷ between) (none : BeginNone between) where
     abbrev of : ℕ
     of = length ends.older
@@ -127,10 +150,7 @@ module _ (f : Floor) (was now : PassesValue) (phased : ArePhased f was) (on : Ha
     seen-is : now.seen ≡ Ended of how ∷ mid
     seen-is = ends.seen ∙ ap (λ (l : List Event). l ++ Called ends.number call ∷ ends.older) is
 
-    own : ends.number ≡ session_of_call f.with (class_of call)
-    own = admin-is ends.number ends.admin ∙ sym (admin-calls f.with call (closing-no-sync call closes))
-
-    whole-done : HasPulls f.with mid (Ended of how) → DoesCommand f.with f.hierarchy ends.number (Control call) was.seen now.seen
+    whole-done : HasPulls f.with mid (Ended of how) → DoesCommand f.with f.hierarchy ends.number c was.seen now.seen
     whole-done pulls =
         let right = subst (IsRight (site_of f.with f.hierarchy)) seen-is on.right in
         record {
@@ -138,35 +158,32 @@ module _ (f : Floor) (was now : PassesValue) (phased : ArePhased f was) (on : Ha
           of = of;
           one = ap (λ (l : List Event). begins_of l ends.number) seen-is ∙ begins_of-other (Ended of how) mid ends.number refl ∙ none ends.number (Called ends.number call ∷ ends.older)
               ∙ begins_of-here (Called ends.number call) ends.older ends.number (begins-own ends.number (Called ends.number call) refl) ∙ ap (λ (l : List ℕ). l ++ of ∷ []) ends.only;
-          begins = (Called ends.number call, ap (λ (l : List Event). event_at l of) seen-is ∙ at-pushed (Ended of how ∷ between) ends.older (Called ends.number call), (own, refl));
+          begins = (Called ends.number call, ap (λ (l : List Event). event_at l of) seen-is ∙ at-pushed (Ended of how ∷ between) ends.older (Called ends.number call), begins (before now.seen of));
           over = subst (λ (l : List Event). IsTrue (is_over l of)) (sym seen-is) (over-here (Ended of how) mid of refl);
           pulls = subst (λ (l : List Event). PullsAlone l of → EndsWithPulls f.with l of) (sym seen-is) (ends-pulled (site_of f.with f.hierarchy) f.with mid of how right (λ alone. pulls));
         }
 
-    -- it is done, and no other command
-    pub each-whole : HasPulls f.with mid (Ended of how) → EachDoes f.with f.hierarchy (Control call ∷ []) was.seen now.seen
-    each-whole pulls session = elim (cases_lt session (f.with.servers + 1)) [
-      | inl low ↦ other-does session (λ e. omega (arith, low, e))
-      | inr high ↦ elim (cases_lt (f.with.servers + 1) session) [
-        | inl above ↦ other-does session (λ e. omega (arith, above, e))
-        | inr here ↦
-            let admin = admin-is ends.number ends.admin in
-            let same : ends.number ≡ session = omega (arith, high, here, admin) in
-            does-own f.with f.hierarchy session (Control call) was.seen now.seen (sym own ∙ same)
-            (subst (λ (n : ℕ). DoesCommand f.with f.hierarchy n (Control call) was.seen now.seen) same (whole-done pulls))
-      ]
-    ]
-      where
-        other-does : (n : ℕ) → n ≢ f.with.servers + 1 → DoesInTurn f.with f.hierarchy n (stream_of f.with (Control call ∷ []) n) was.seen now.seen
-        other-does n differs =
-            let apart : (session_of f.with (Control call) == n) ≡ false = ne_eqb (session_of f.with (Control call)) n (λ e. differs (sym e ∙ admin-calls f.with call (closing-no-sync call closes))) in
-            subst (λ (l : List Command). DoesInTurn f.with f.hierarchy n l was.seen now.seen) (sym (ap (λ (b : Bool). cond b (Control call ∷ []) []) apart)) (else-nothing n differs)
+    pub each-whole : HasPulls f.with mid (Ended of how) → EachDoes f.with f.hierarchy (c ∷ []) was.seen now.seen
+    each-whole pulls = each-one c ends.number of_admin ends.admin (whole-done pulls)
+
+    -- where the call pulls nothing
+    pub each-plain : is_pulling (class_of call) ≡ false → EachDoes f.with f.hierarchy (c ∷ []) was.seen now.seen
+    each-plain plain =
+        each-whole
+        (has-pulls f.with mid of call how (call-at between ends.older ends.number call) (plain-pulls f.with.servers (class_of call) how (pulls_since mid of) plain))
+
+  -- A called command.
+  module _ (call : Call) (closes : is_closing (class_of call) ≡ true) where
+    of-admin : session_of f.with (Control call) ≡ f.with.servers + 1
+    of-admin = admin-calls f.with call (closing-no-sync call closes)
+
+    begins-called : (number : ℕ) → IsAdminOf was.setting number → (past : List Event) → Begins f.with f.hierarchy past (Control call) (Called number call)
+    begins-called number at past = (admin-is number at ∙ sym of-admin, refl)
 
   -- Barriers.
   pub barrier-done : (call : Call) → class_of call ≡ class.Bare → EndsIn Barrier (λ of. Ended of how_it.Fine ∷ []) was now → EachDoes f.with f.hierarchy (Control call ∷ []) was.seen now.seen
   barrier-done Barrier is ends =
-      each-whole Barrier refl (λ of. Ended of how_it.Fine ∷ []) ends how_it.Fine [] refl (λ n past. refl)
-      (has-pulls f.with (Called ends.number Barrier ∷ ends.older) (length ends.older) Barrier how_it.Fine (call-at [] ends.older ends.number Barrier) tt)
+      each-plain (Control Barrier) refl Barrier (λ of. Ended of how_it.Fine ∷ []) ends (begins-called Barrier refl ends.number ends.admin) how_it.Fine [] refl (λ n past. refl) refl
   barrier-done call is ends = absurd (bare-only call is)
     where
       bare-only : (c : Call) → class_of c ≡ class.Bare → ⊥
@@ -178,10 +195,7 @@ module _ (f : Floor) (was now : PassesValue) (phased : ArePhased f was) (on : Ha
       → events (length ends.older) ≡ Ended (length ends.older) how ∷ between → BeginNone between → EachDoes f.with f.hierarchy (Control call ∷ []) was.seen now.seen
   page-ends call subject is events ends how between at none =
       let closes : is_closing (class_of call) ≡ true = ap is_closing is in
-      let plain : is_pulling (class_of call) ≡ false = ap is_pulling is in
-      each-whole call closes events ends how between at none
-      (has-pulls f.with (between ++ Called ends.number call ∷ ends.older) (length ends.older) call how (call-at between ends.older ends.number call)
-      (plain-pulls f.with.servers (class_of call) how (pulls_since (between ++ Called ends.number call ∷ ends.older) (length ends.older)) plain))
+      each-plain (Control call) (of-admin call closes) call events ends (begins-called call closes ends.number ends.admin) how between at none (ap is_pulling is)
 
   pub page-done : (call : Call) (subject : Subject) → class_of call ≡ class.Page subject → (r : Paged) → (r ≡ paged.NotBegun → ⊥) → AreToldBy f call r was now → EachDoes f.with f.hierarchy (Control call ∷ []) was.seen now.seen
   page-done call subject is (paged.Page shown) there told =
@@ -190,12 +204,45 @@ module _ (f : Floor) (was now : PassesValue) (phased : ArePhased f was) (on : Ha
   page-done call subject is paged.Failed there told = page-ends call subject is (λ of. Ended of how_it.NoMemory ∷ []) told how_it.NoMemory [] refl (λ n past. refl)
   page-done call subject is paged.NotBegun there told = absurd (there refl)
 
+  -- Groups.
+
+  module _ (dim level : ℕ) (names : List NamePick) where
+    group-ends : (call : Call) → IsGroupNamed f dim level names call → (events : ℕ → List Event) (ends : EndsIn call events was now) (how : How) (between : List Event)
+        → events (length ends.older) ≡ Ended (length ends.older) how ∷ between → BeginNone between → EachDoes f.with f.hierarchy (Group dim level names ∷ []) was.seen now.seen
+    group-ends call named events ends how between at none =
+        each-plain (Group dim level names) refl call events ends (λ past. (admin-is ends.number ends.admin, (named.filter, named.named, named.call_is))) how between at none
+        (ap (λ (c : Call). is_pulling (class_of c)) named.call_is)
+
+    pub group-told : (r : Paged) → (r ≡ paged.NotBegun → ⊥) → AreToldGroup f dim level names r was now → EachDoes f.with f.hierarchy (Group dim level names ∷ []) was.seen now.seen
+    group-told (paged.Page shown) there (call, named, told) =
+        group-ends call named (λ of. Ended of how_it.Fine ∷ Shown of shown ∷ []) told.ends how_it.Fine (Shown (length told.ends.older) shown ∷ []) refl (shown-none (length told.ends.older) shown)
+    group-told paged.Unknown there told = absurd told
+    group-told paged.Failed there (call, named, ends) = group-ends call named (λ of. Ended of how_it.NoMemory ∷ []) ends how_it.NoMemory [] refl (λ n past. refl)
+    group-told paged.NotBegun there told = absurd (there refl)
+
+    -- where a name stands for nothing
+    pub group-unknown : (unknown : ℕ) → HaveNotedUnknown f names unknown was now → EachDoes f.with f.hierarchy (Group dim level names ∷ []) was.seen now.seen
+    group-unknown unknown noted =
+        let ends = noted.ends in
+        let e = Unknown ends.number 0 unknown in
+        let of = length ends.older in
+        let at : event_at now.seen of ≡ Some e = ap (λ (l : List Event). event_at l of) ends.seen ∙ event_at-here e ends.older in
+        each-one (Group dim level names) ends.number refl ends.admin
+        (record {
+          later = on.later;
+          of = of;
+          one = ap (λ (l : List Event). begins_of l ends.number) ends.seen ∙ begins_of-here e ends.older ends.number (begins-own ends.number e refl) ∙ ap (λ (l : List ℕ). l ++ of ∷ []) ends.only;
+          begins = (e, at, (admin-is ends.number ends.admin, refl, noted.first));
+          over = over-itself now.seen of e at refl;
+          pulls = λ alone. unpulled f.with now.seen of e at refl;
+        })
+
   -- Settles.
 
   settle-ends : (how : How) (pulls : List Event) → ArePullsOfSettle f.with.servers pulls → (ends : EndsIn Settle (λ of. Ended of how ∷ pulls) was now)
       → ArePulls f.with.servers class.Settle how (take (length pulls) (settle_pulls f.with.servers)) → EachDoes f.with f.hierarchy (Control Settle ∷ []) was.seen now.seen
   settle-ends how pulls are ends right =
-      each-whole Settle refl (λ of. Ended of how ∷ pulls) ends how pulls refl (pulls-begin-none f.with.servers ends.number ends.older pulls are)
+      each-whole (Control Settle) refl Settle (λ of. Ended of how ∷ pulls) ends (begins-called Settle refl ends.number ends.admin) how pulls refl (pulls-begin-none f.with.servers ends.number ends.older pulls are)
       (has-pulls f.with (pulls ++ Called ends.number Settle ∷ ends.older) (length ends.older) Settle how (call-at pulls ends.older ends.number Settle)
       (subst (λ (l : List ℕ). ArePulls f.with.servers class.Settle how l) (sym (pulled-list f.with.servers ends.number ends.older pulls are)) right))
 

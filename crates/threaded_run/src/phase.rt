@@ -62,8 +62,5 @@ fn do_phase<R: Threads + Wait + Sync, M: Meet + Sync>(
     let Ok(()) = run_together(rt, alloc, hall, passes, front, meet) else {
         return Err(AllocError);
     };
-    match &phase[many - 1] {
-        Command::Control(call) => close_phase(rt, alloc, hall, passes, call),
-        _ => unreachable!(),
-    }
+    close_phase(rt, alloc, hall, passes, &phase[many - 1])
 }

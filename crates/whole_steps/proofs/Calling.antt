@@ -1,5 +1,5 @@
 -- What a step of a called command makes of the history, and of its actor, at the seat that has all actors.
-use Rattle.std.proofs.Common.{◌≡◌, ◌∙◌, ℕ, ◌+◌, ◌<◌, true, false, List, [], ◌∷◌, length, Option, Some, None, Result, refl, sym, ap, subst, arith}
+use Rattle.std.proofs.Common.{◌≡◌, ◌∙◌, ℕ, ◌+◌, ◌<◌, ◌≤◌, true, false, List, [], ◌∷◌, length, Option, Some, None, Result, refl, sym, ap, subst, arith}
 use Rattle.std.specs.Prelude.{OnErr, OnOk}
 use mathlib.Core.Option.{none}
 use Rattle.call_steps.proofs.CallsMade.{IsBegunBy, IsToldOf, begun-by, same-work}
@@ -11,17 +11,18 @@ use Rattle.call_steps.specs.core_steps.specs.{Notes.{note_asks, note_kind, note_
 use Rattle.call_steps.specs.core_steps.specs.declared.notes.NoteStep.TheVariants as note
 use Rattle.dim_hierarchy.specs.Dimension.{Dimension}
 use Rattle.list_words.proofs.Elements.{Some-same}
-use Rattle.row_ledger.specs.{Classes.class_of, Right.Asks, declared.class.Subject.Subject, declared.event.Event.Event, declared.page.Page.Page, declared.settings.{Call.Call, How.How}}
+use Rattle.row_ledger.specs.{Classes.class_of, Right.Asks, declared.class.{Class.Class, Subject.Subject}, declared.event.Event.Event, declared.page.Page.Page, declared.settings.{Call.Call, How.How}}
 use Rattle.row_ledger.specs.declared.event.Event.TheVariants as event
-use Rattle.call_steps.specs.seat_steps.proofs.{HeldLedger.{changed, does-held, history_in, newest, pushed, tells-held}, Since.{extends-on, map-err, map-ok}, WithLedger.due-still}
+use Rattle.call_steps.specs.seat_steps.proofs.{HeldLedger.{changed, does-held, history_in, newest, pushed, tells-held}, Since.{extends-on, map-err, map-ok, nothing-new}, WithLedger.due-still}
+use Rattle.call_steps.specs.session_steps.proofs.CommandsMade.{unknown-noted}
 use Rattle.call_steps.specs.seat_steps.specs.{Booked.IsDue, declared.floor.{Floor.Floor, Player.Player}}
 use Rattle.server_image.specs.Registry.{RegistryValue}
 use Rattle.turn_table.specs.{Numbered.{value_of}, Seat.{SeatValue}}
-use Rattle.core_pages.specs.volap_cell.specs.{Cells.CellValue, Commands.once_shown, ImageKinds.{DoesNote, DoesNoteWith, IsBegun, IsFree, NotesCalled, NotesEnded, NotesShown, OfCalled, OfCalledAsking, OfCount, OfEnded, OfLeft, OfQuery, OfRefused, OfShown, OfUnknown, OfUnrouted, doing}, Setting.{Setting, ledger_cell, registry_cell}, Values.{ActorValue, actor_of}, World.{Change, World}, declared.actor.Actor.Actor, declared.cell.Cell.Cell, declared.command.{Command.Command, Work.Work}, declared.kind.Kind.Kind}
+use Rattle.core_pages.specs.volap_cell.specs.{Cells.CellValue, Commands.{once_shown, server_of}, ImageKinds.{DoesNote, DoesNoteWith, IsBegun, IsFree, NotesCalled, NotesEnded, NotesShown, OfCalled, OfCalledAsking, OfCount, OfEnded, OfLeft, OfQuery, OfRefused, OfShown, OfUnknown, OfUnrouted, doing}, Setting.{Setting, ledger_cell, registry_cell}, Values.{ActorValue, actor_of}, World.{Change, World}, declared.actor.Actor.Actor, declared.cell.Cell.Cell, declared.command.{Command.Command, Work.Work}, declared.kind.Kind.Kind}
 use Rattle.core_pages.specs.volap_cell.specs.declared.command.Work.TheVariants as work_is
 use Rattle.core_pages.specs.volap_cell.specs.declared.kind.Kind.TheVariants as kind
 use Rattle.whole_steps.proofs.{Adding.takes-turn, Alone.{around, sole-on}, Turned.knows-on}
-use Rattle.whole_steps.specs.{Commands.{CanShow, HasCalledSole, HasEndedSole, HasShownSole, IsAtPage}, Seats.{HasEveryone, HasTurned, TakesCell}, Sole.{HasAdded, HasMadeSole, HasWaited, IsDueSole, IsSameBut, IsSole, player}}
+use Rattle.whole_steps.specs.{Commands.{CanShow, HasCalledSole, HasEndedSole, HasShownSole, IsAtPage}, Done.HasNotedUnknown, Seats.{HasEveryone, HasTurned, TakesCell}, Sole.{HasAdded, HasMadeSole, HasWaited, IsDueSole, IsSameBut, IsSole, player}}
 
 -- What is asked.
 
@@ -34,17 +35,21 @@ pub due-before : {cell rank : ℕ} (f : Floor) (n : ℕ) (a : Actor) (was mid : 
     → value_of was.view.held ledger_cell ≡ none → IsDue f (player n a was) row Asks → IsDue f (player n a mid) row Asks
 due-before {cell} {rank} f n a was mid row took off due = due-still f row (takes-turn cell rank n a was mid took) off due
 
+-- with a call nothing else was added
+pub began-with : {h : List Dimension} {call : Call} {p : Player} (at : IsAtPage h call p) → length p.seat.view.seen ≡ length at.older + 1
+began-with at = (let all = ap (λ (l : List Event). length l) at.newest in omega (arith, all))
+
 -- a page is shown in every state that the seat may be in
 pub show-due : (f : Floor) (p : Player) (shown : Page) → IsSole f p → CanShow f shown p → IsDueSole f p (note_places (note.Shown shown)) (note_asks (note.Shown shown))
 show-due f p shown sole can = record {
   prepared = λ s w is.
       let at = is.around in
       let asked : CanNoteShown shown (w.cells ledger_cell) (w.actors p.number) = record {
-        of = can.due.of;
-        work = work_is.Page can.subject true false;
+        of = length can.due.older;
+        work = work_is.Page can.due.subject true false;
         command = ap (λ (a : ActorValue). a.command) at.actor ∙ can.due.command;
-        shows = can.asked;
-        next = ap (λ (l : List Event). length l) (is.history (can.knows ledger_cell (ledger-low _ _ _ _ at.cells))) ∙ can.due.next;
+        shows = subst (λ (c : Class). Asks c shown) can.due.asks can.asked;
+        next = ap (λ (l : List Event). length l) (is.history (can.knows ledger_cell (ledger-low _ _ _ _ at.cells))) ∙ began-with can.due;
         ledger_is = at.inv.holds.numbering.tag ledger_cell;
       } in
       prepared s w at.inv p.number (one_at ledger_cell) (note_asks (note.Shown shown) s.hierarchy) at.there (hold-ledger s w at.inv p.number) asked;
@@ -128,6 +133,29 @@ module _ {f : Floor} {See : Setting → World → ℕ → Type 0} {Tells : Actor
       let n = asking-note (changed held new ledger_cell) (actor_of (has.mid).actor) (actor_of now.actor) free (changed held new registry_cell) (does-held has.made has.at) in
       has-called has (begun-by has.made has.whole (has.at).there.1.0 call told n.0 true n.1)
 
+-- A note of a command that does not begin.
+
+pub has-noted : {f : Floor} {See : Setting → World → ℕ → Type 0} {was now : Player} (dim : ℕ) → IsSole f was → IsFree (actor_of was.actor) → (actor_of was.actor).seen ≤ length was.seat.view.seen
+    → HasMadeSole f (note_kind (note.Unknown dim)) See (note_tells (note.Unknown dim)) (note_places (note.Unknown dim)) was now → HasNotedUnknown f dim was now
+has-noted {f} {See} {was} {now} dim sole free seen has =
+    let me = mid-actor has in
+    let number : (actor_of (has.mid).actor).number ≡ was.number = ap (λ (a : ActorValue). a.number) me ∙ numbered f was sole in
+    let both = unknown-noted has.whole dim (subst IsFree (sym me) free) has.at has.made in
+    let actor : actor_of now.actor ≡ record (actor_of was.actor) { seen = length now.seat.view.seen } = both.1 ∙ ap (λ (a : ActorValue). record a { seen = length now.seat.view.seen }) me in
+    let last = ap (λ (a : ActorValue). a.seen) actor in
+    record {
+      done = record {
+        stands = has.stands;
+        same = has.same;
+        actor = actor ∙ (λ i. record (actor_of was.actor) { seen = sym last i });
+        noted = omega (arith, last);
+      };
+      older = (has.mid).seat.view.seen;
+      since = has.turned.seen;
+      only = nothing-new was.number (actor_of was.actor).seen (has.mid).seat.view.seen was.seat.view.seen has.turned.seen has.noted seen;
+      seen = both.0 ∙ (λ i. event.Unknown (number i) (server_of (me i).role) dim ∷ (has.mid).seat.view.seen);
+    }
+
 -- What it comes to where turns were taken before.
 
 module _ (f : Floor) (n : ℕ) (a b : Actor) (was mid now : SeatValue Cell Actor Event) where
@@ -160,7 +188,7 @@ module _ (f : Floor) (n : ℕ) (a b : Actor) (was mid now : SeatValue Cell Actor
       map-ok r (λ has.
       let seen = extends-length was.view.seen mid.view.seen took.turned.seen in
       let noted = can.noted in
-      let c = asking-called (sole-on f (player n a was) mid sole took.turned everyone) call (record { free = can.free; allowed = can.allowed; server = can.server; noted = omega arith }) has (told has) in
+      let c = asking-called (sole-on f (player n a was) mid sole took.turned everyone) call (record { free = can.free; allowed = can.allowed; server = can.server; valid = can.valid; noted = omega arith }) has (told has) in
       record { added = added-before took.turned c.added; work = c.work; job = c.job; begins = c.begins; actor = c.actor })
       made
 
@@ -205,22 +233,22 @@ ended-note l a b of h told (OfShown page n) = (let q = sym told ∙ (pushed n.sh
 ended-note l a b of h told (OfCount n) = (let never : [] ≡ event.Ended of h ∷ history_in l.before = sym (ap history_in n.turns.is) ∙ told in absurd (cc))
 
 module _ {f : Floor} {See : Setting → World → ℕ → Type 0} {was now : Player} where
-  pub has-shown : (shown : Page) (subject : Subject) (at : IsAtPage subject was) → HasMadeSole f (note_kind (note.Shown shown)) See (note_tells (note.Shown shown)) (note_places (note.Shown shown)) was now → HasShownSole f shown was now
-  has-shown shown subject at has =
+  pub has-shown : (shown : Page) {h : List Dimension} {call : Call} (at : IsAtPage h call was) → HasMadeSole f (note_kind (note.Shown shown)) See (note_tells (note.Shown shown)) (note_places (note.Shown shown)) was now → HasShownSole f shown was now
+  has-shown shown at has =
       let me = mid-actor has in
       let there = (has.at).there.0 in
       let l = changed (has.mid).seat.view.held (has.made).new ledger_cell in
       let does : DoesNote l (actor_of was.actor) (actor_of now.actor) = subst (λ (a : ActorValue). DoesNote l a (actor_of now.actor)) me (does-held has.made has.at) in
       let n = shown-note l (actor_of was.actor) (actor_of now.actor) (began_at (actor_of (has.mid).actor).command) shown (tells-held has.made has.at) does in
       let e = newest has.made has.whole there n.shown in
-      let place = place-same at.of n.of (work_is.Page subject true false) n.work (actor_of was.actor).command at.command n.command in
-      let work = same-work n.of at.of n.work (work_is.Page subject true false) (actor_of was.actor).command n.command at.command in
+      let place = place-same (length at.older) n.of (work_is.Page at.subject true false) n.work (actor_of was.actor).command at.command n.command in
+      let work = same-work n.of (length at.older) n.work (work_is.Page at.subject true false) (actor_of was.actor).command n.command at.command in
       record {
-        of = at.of;
-        subject = subject;
+        of = length at.older;
+        subject = at.subject;
         command = at.command;
-        added = added has (event.Shown at.of shown) (e.0 ∙ ap (λ (k : ℕ). event.Shown k shown ∷ (has.mid).seat.view.seen) place);
-        actor = n.actor_is ∙ (λ k. record (actor_of was.actor) { command = doing (place k) (shown-work subject n.work n.work_now work n.once k); seen = e.1 k });
+        added = added has (event.Shown (length at.older) shown) (e.0 ∙ ap (λ (k : ℕ). event.Shown k shown ∷ (has.mid).seat.view.seen) place);
+        actor = n.actor_is ∙ (λ k. record (actor_of was.actor) { command = doing (place k) (shown-work at.subject n.work n.work_now work n.once k); seen = e.1 k });
       }
 
   -- Ends.

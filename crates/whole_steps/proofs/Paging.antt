@@ -11,7 +11,7 @@ use Rattle.row_ledger.specs.{Classes.class_of, Right.Asks, declared.class.Class.
 use Rattle.row_ledger.specs.declared.class.Class.TheVariants as class
 use Rattle.row_ledger.specs.declared.class.Subject.TheVariants as subject
 use Rattle.row_ledger.specs.declared.event.Event.TheVariants.{Called, Ended, Shown}
-use Rattle.row_ledger.specs.declared.settings.Call.TheVariants.{Audit, Barrier, Shards, Tree}
+use Rattle.row_ledger.specs.declared.settings.Call.TheVariants.{Audit, Barrier, Group, Shards, Tree}
 use Rattle.row_ledger.specs.declared.settings.Decline.TheVariants as decline
 use Rattle.row_ledger.specs.declared.settings.How.TheVariants as how
 use Rattle.call_steps.specs.seat_steps.proofs.Since.{extends-on, nothing-new}
@@ -22,7 +22,7 @@ use Rattle.turn_table.specs.{Numbered.{value_of}, Seat.{SeatValue, cell_count}}
 use Rattle.core_pages.specs.volap_cell.specs.{Cells.{CellValue, cell_of}, ImageKinds.{IsBegun, doing, subject_stands}, Setting.{ledger_cell}, Values.{ActorValue, actor_of}, World.World, declared.actor.Actor.Actor, declared.cell.Cell.Cell, declared.command.{Command.Command, Work.Work}}
 use Rattle.core_pages.specs.volap_cell.specs.declared.command.Work.TheVariants as work_is
 use Rattle.call_steps.specs.volap_turns.proofs.Known.{about}
-use Rattle.whole_steps.proofs.{Alone.{around, everyone-of, sole-on, whole-history}, Known.{cell-none, seen-self}, Turned.{knows-on, turned-self}}
+use Rattle.whole_steps.proofs.{Alone.{around, everyone-of, sole-on, whole-history}, Calling.began-with, Known.{cell-none, seen-self}, Turned.{knows-on, turned-self}}
 use Rattle.whole_steps.specs.{Commands.{CanShow, HasCalledSole, HasEndedSole, HasShownSole, IsAtPage, IsPageIn}, Done.{HasDone, HasEndedPage, HasNotBegun, HasPaged, HasToldPage, IsOfTree, IsPageAt, is_there}, Seats.{HasEveryone, HasTurned, Knows, KnowsAll, if_some, state_at}, Sole.{HasWaited, IsSameBut, IsSole, StandsSole, player}}
 use Rattle.whole_steps.specs.declared.tells.Paged.{Paged}
 use Rattle.whole_steps.specs.declared.tells.Paged.TheVariants as paged
@@ -78,15 +78,14 @@ state-back t was now everyone everyone_now knows turned w seen = record {
 pub can-call-on : (f : Floor) (call : Call) (n : ℕ) (a : Actor) (was now : SeatValue Cell Actor Event) → HasTurned was now → CanCall f call (player n a was) → CanCall f call (player n a now)
 can-call-on f call n a was now turned can =
     let longer = extends-length was.view.seen now.view.seen turned.seen in
-    let noted = can.noted in record { free = can.free; allowed = can.allowed; server = can.server; noted = omega arith }
+    let noted = can.noted in record { free = can.free; allowed = can.allowed; server = can.server; valid = can.valid; noted = omega arith }
 
 -- Where the call has not begun.
 
-pub not-begun : (f : Floor) (call : Call) (n : ℕ) (a b : Actor) (was mid now : SeatValue Cell Actor Event) → HasTurned was mid → HasEveryone f.table mid → CanCall f call (player n a was) → HasWaited f (player n a mid) (player n b now) → HasNotBegun f (player n a was) (player n b now)
-not-begun f call n a b was mid now turned everyone can waited =
+pub not-begun : (f : Floor) (n : ℕ) (a b : Actor) (was mid now : SeatValue Cell Actor Event) → HasTurned was mid → HasEveryone f.table mid → (actor_of a).seen ≤ length was.view.seen → HasWaited f (player n a mid) (player n b now) → HasNotBegun f (player n a was) (player n b now)
+not-begun f n a b was mid now turned everyone noted waited =
     let since = extends-on now.view.seen mid.view.seen was.view.seen waited.seen turned.seen in
     let longer = extends-length was.view.seen now.view.seen since in
-    let noted = can.noted in
     let seen = ap (λ (x : ActorValue). x.seen) waited.actor in
     record {
       done = record {
@@ -96,14 +95,15 @@ not-begun f call n a b was mid now turned everyone can waited =
         noted = omega arith;
       };
       since = since;
-      only = nothing-new n (actor_of a).seen now.view.seen was.view.seen since waited.noted can.noted;
+      only = nothing-new n (actor_of a).seen now.view.seen was.view.seen since waited.noted noted;
     }
 
--- all shards and all rows are always there
+-- all shards, all rows and all groups are always there
 tree-alone : (call : Call) (about : Subject) (r : RegistryValue) → class_of call ≡ class.Page about → subject_stands r about ≡ false → IsOfTree call
 tree-alone (Tree shard) about r is none_there = tt
 tree-alone Shards about r is none_there = absurd (let same : subject.Shards ≡ about = cc in let never : true ≡ false = ap (subject_stands r) same ∙ none_there in cc)
 tree-alone Audit about r is none_there = absurd (let same : subject.Rows ≡ about = cc in let never : true ≡ false = ap (subject_stands r) same ∙ none_there in cc)
+tree-alone (Group dim level filter) about r is none_there = absurd (let same : subject.Groups ≡ about = cc in let never : true ≡ false = ap (subject_stands r) same ∙ none_there in cc)
 tree-alone call about r is none_there = absurd (cc)
 
 -- The work with which it begins.
@@ -120,16 +120,16 @@ module _ (f : Floor) (call : Call) (subject : Subject) (class_is : class_of call
   command-is : (actor_of now.actor).command ≡ doing (length has.added.older) has.work
   command-is = ap (λ (a : ActorValue). a.command) has.actor
 
-  next-is : length now.seat.view.seen ≡ length has.added.older + 1
-  next-is = (let all = ap (λ (l : List Event). length l) has.added.now_is in omega (arith, all))
-
-  pub at-page : CanCall f call was → is_there (actor_of now.actor).command ≡ true → IsAtPage subject now
+  pub at-page : CanCall f call was → is_there (actor_of now.actor).command ≡ true → IsAtPage f.hierarchy call now
   at-page can there =
       let found : work-is.0 ≡ true = sym (ap is_there (command-is ∙ ap (doing (length has.added.older)) work-is.1)) ∙ there in
       record {
-        of = length has.added.older;
+        subject = subject;
+        asks = class_is;
+        valid = can.valid;
+        older = has.added.older;
+        newest = has.added.now_is ∙ ap (λ (k : ℕ). Called k call ∷ has.added.older) (sym has.added.same.number);
         command = command-is ∙ ap (doing (length has.added.older)) (work-is.1 ∙ ap (λ (b : Bool). work_is.Page subject b false) found);
-        next = next-is;
         no_part = ap (λ (a : ActorValue). a.errand) has.actor ∙ can.free.errand;
       }
 
@@ -170,7 +170,7 @@ ended-straight f h n of work a b was mid now command began turned everyone knows
     }
 
 -- or behind its page
-module _ (f : Floor) (n : ℕ) (subject : Subject) (shown : Page) (a b c : Actor) (was mid then now : SeatValue Cell Actor Event) (at : IsAtPage subject (player n a was)) (turned : HasTurned was mid) (everyone : HasEveryone f.table mid) (knows : Knows was ledger_cell)
+module _ (f : Floor) (n : ℕ) (call : Call) (shown : Page) (a b c : Actor) (was mid then now : SeatValue Cell Actor Event) (at : IsAtPage f.hierarchy call (player n a was)) (turned : HasTurned was mid) (everyone : HasEveryone f.table mid) (knows : Knows was ledger_cell)
     (has : HasShownSole f shown (player n a mid) (player n b then)) where
   -- a command whose page was shown may end
   pub ends-shown : CanEndCall f how.Fine (player n b then)
@@ -187,12 +187,12 @@ module _ (f : Floor) (n : ℕ) (subject : Subject) (shown : Page) (a b c : Actor
 
   pub ended-shown : HasEndedSole f how.Fine (player n b then) (player n c now) → HasEndedPage f (λ k. Ended k how.Fine ∷ Shown k shown ∷ []) (player n a was) (player n c now)
   ended-shown ends =
-      let place : has.of ≡ at.of = place-same at.of has.of (work_is.Page subject true false) (work_is.Page has.subject true false) (actor_of a).command at.command has.command in
-      let place_too : ends.of ≡ at.of = place-same has.of ends.of (work_is.Page has.subject true true) ends.work (actor_of b).command (ap (λ (x : ActorValue). x.command) has.actor) ends.command ∙ place in
+      let place : has.of ≡ length at.older = place-same (length at.older) has.of (work_is.Page at.subject true false) (work_is.Page has.subject true false) (actor_of a).command at.command has.command in
+      let place_too : ends.of ≡ length at.older = place-same has.of ends.of (work_is.Page has.subject true true) ends.work (actor_of b).command (ap (λ (x : ActorValue). x.command) has.actor) ends.command ∙ place in
       let before : has.added.older ≡ was.view.seen = has.added.exact (knows-on turned ledger_cell knows) ∙ turned.exact knows in
       record {
-        of = at.of;
-        began = at.next;
+        of = length at.older;
+        began = began-with at;
         stands = ends.added.stands;
         same = same-on (same-turned f n a was mid turned everyone) (same-on has.added.same ends.added.same);
         seen = ends.added.now_is ∙ (λ i. Ended (place_too i) how.Fine ∷ (ends.added.exact has.added.knows ∙ has.added.now_is ∙ (λ j. Shown (place j) shown ∷ before j)) i);
@@ -200,8 +200,8 @@ module _ (f : Floor) (n : ℕ) (subject : Subject) (shown : Page) (a b c : Actor
       }
 
 -- a command that shows nothing may end for want of memory
-pub ends-failed : (f : Floor) (subject : Subject) (p : Player) → IsAtPage subject p → (actor_of p.actor).seen ≤ length p.seat.view.seen → CanEndCall f how.NoMemory p
-ends-failed f subject p at noted = record { of = at.of; work = work_is.Page subject true false; command = at.command; ends = refl; no_part = at.no_part; noted = noted }
+pub ends-failed : (f : Floor) (call : Call) (p : Player) → IsAtPage f.hierarchy call p → (actor_of p.actor).seen ≤ length p.seat.view.seen → CanEndCall f how.NoMemory p
+ends-failed f call p at noted = record { of = length at.older; work = work_is.Page at.subject true false; command = at.command; ends = refl; no_part = at.no_part; noted = noted }
 
 -- From the beginning to the end.
 
@@ -267,20 +267,23 @@ bare-done f n a b c was then now stands can has ends =
 
 -- What is made of a page.
 
-module _ (f : Floor) (subject : Subject) (n : ℕ) (a : Actor) (was mid : SeatValue Cell Actor Event) (stands : StandsSole f (player n a was)) (knows : KnowsAll f.table was) (at : IsAtPage subject (player n a was)) (turned : HasTurned was mid) (everyone : HasEveryone f.table mid) where
-  pub at-on : IsAtPage subject (player n a mid)
+module _ (f : Floor) (call : Call) (n : ℕ) (a : Actor) (was mid : SeatValue Cell Actor Event) (stands : StandsSole f (player n a was)) (knows : KnowsAll f.table was) (at : IsAtPage f.hierarchy call (player n a was)) (turned : HasTurned was mid) (everyone : HasEveryone f.table mid) where
+  pub at-on : IsAtPage f.hierarchy call (player n a mid)
   at-on = record {
-    of = at.of;
+    subject = at.subject;
+    asks = at.asks;
+    valid = at.valid;
+    older = at.older;
+    newest = turned.exact (ledger-known f (player n a was) stands.sole knows) ∙ at.newest;
     command = at.command;
-    next = ap (λ (l : List Event). length l) (turned.exact (ledger-known f (player n a was) stands.sole knows)) ∙ at.next;
     no_part = at.no_part;
   }
 
-  pub shows-on : (made : Result Page AllocError) → IfOk made (λ p. IsPageIn f.hierarchy (state_at was) p) → IfOk made (λ p. Asks (class.Page subject) p) → (shown : Page) → made ≡ Ok shown → CanShow f shown (player n a mid)
+  pub shows-on : (made : Result Page AllocError) → IfOk made (λ p. IsPageIn f.hierarchy (state_at was) p) → IfOk made (λ p. Asks (class_of call) p) → (shown : Page) → made ≡ Ok shown → CanShow f shown (player n a mid)
   shows-on made page asked shown is = record {
-    subject = subject;
+    call = call;
     due = at-on;
-    asked = subst (λ (r : Result Page AllocError). IfOk r (λ p. Asks (class.Page subject) p)) is asked;
+    asked = subst (λ (r : Result Page AllocError). IfOk r (λ p. Asks (class_of call) p)) is asked;
     knows = λ k low. knows-on turned k (knows k low);
     page = λ s w about inv_seen inv. subst (λ (r : Result Page AllocError). IfOk r (λ p. IsPageIn f.hierarchy (state_at was) p)) is page s w about (state-back f.table was mid (everyone-of f (player n a was) stands.sole) everyone knows turned w inv_seen) inv;
   }
@@ -292,7 +295,7 @@ module _ (f : Floor) (subject : Subject) (n : ℕ) (a : Actor) (was mid : SeatVa
   noted-on noted = (let longer = extends-length was.view.seen mid.view.seen turned.seen in omega (arith, longer, noted))
 
   pub fails-on : (actor_of a).seen ≤ length was.view.seen → CanEndCall f how.NoMemory (player n a mid)
-  fails-on noted = ends-failed f subject (player n a mid) at-on (noted-on noted)
+  fails-on noted = ends-failed f call (player n a mid) at-on (noted-on noted)
 
 pub told-page : {f : Floor} {shown copy : Page} {was now : Player} → shown ≡ copy → HasEndedPage f (λ k. Ended k how.Fine ∷ Shown k shown ∷ []) was now → IsPageIn f.hierarchy (state_at was.seat) shown → HasToldPage f (paged.Page copy) was now
 told-page {f} {shown} {copy} {was} {now} same ended page = subst (λ (p : Page). HasToldPage f (paged.Page p) was now) same (ended, page)

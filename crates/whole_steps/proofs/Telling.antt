@@ -1,23 +1,26 @@
 -- Pages that are due at the seat that has all actors can be made: a shard that stands has its gate where the table of its worker leads.
-use Rattle.std.proofs.Common.{◌≡◌, ◌≢◌, ◌∙◌, ℕ, ◌+◌, true, false, List, [], ◌∷◌, length, Option, Some, None, Result, Ok, Err, refl, sym, ap, subst, arith}
+use Rattle.std.proofs.Common.{◌≡◌, ◌≢◌, ◌∙◌, ℕ, ◌+◌, ◌<◌, ◌^◌, true, false, List, [], ◌∷◌, length, Option, Some, None, Result, Ok, Err, refl, sym, ap, subst, arith}
 use Rattle.std.specs.{List.list_any, Prelude.{IfOk, IsSome}}
 use Rattle.call_steps.specs.core_due.specs.Look.{setting_by}
 use Rattle.core_pages.specs.core_image.proofs.Images.Hosts.{host-on, stands-live}
-use Rattle.core_pages.specs.{Looks.{IsSeenOf, StateValue, cells_in}, Seen.{CanSeeIn, IsOfGate}}
+use Rattle.core_pages.specs.{Looks.{HasCells, IsSeenOf, StateValue, cells_in}, Seen.{CanSeeIn, IsOfGate}}
+use Rattle.group_answer.specs.Seen.{HasCountIn}
 use Rattle.list_words.proofs.Elements.{Some-same}
 use Rattle.mapping_table.specs.declared.place.Where.TheVariants as where_is
 use Rattle.row_ledger.proofs.Positions.{before-here}
-use Rattle.row_ledger.specs.{Past.{before, call_at, call_in}, Shards.{Place, frontier, is_live, is_of, places_after}, Workers.is_on, declared.class.Subject.Subject, declared.event.Event.Event, declared.event.Event.TheVariants.Called, declared.page.TreePage.TreePage, declared.settings.Call.Call, declared.settings.Use.Use}
+use Rattle.row_ledger.specs.{Classes.class_of, Past.{before, call_at, call_in}, Shards.{Place, frontier, is_live, is_of, places_after}, Workers.is_on, declared.class.Subject.Subject, declared.event.Event.Event, declared.event.Event.TheVariants.Called, declared.page.TreePage.TreePage, declared.settings.Call.Call, declared.settings.Use.Use}
+use Rattle.row_ledger.specs.declared.class.Class.TheVariants as class
 use Rattle.row_ledger.specs.declared.class.Subject.TheVariants as subject
+use Rattle.row_ledger.specs.declared.settings.Call.TheVariants.{Audit, Group, Shards, Tree}
 use Rattle.call_steps.specs.seat_steps.specs.declared.floor.{Floor.Floor, Player.Player}
 use Rattle.server_image.specs.Registry.{host_of}
 use Rattle.core_pages.specs.shard_store.specs.declared.gate.Phase.TheVariants.{Gone}
 use Rattle.turn_table.specs.Seat.{cell_count}
 use Rattle.core_pages.specs.volap_cell.proofs.OneEvent.Noted.{new-told}
-use Rattle.core_pages.specs.volap_cell.specs.{Cells.{CellValue, gate_shard, phase_of, registry_in, where_in}, Setting.{Setting, map_cell, registry_cell}, Steps.{Inv, history_in}, Values.{ActorValue, actor_of}, View.view}
+use Rattle.core_pages.specs.volap_cell.specs.{Cells.{CellValue, gate_shard, ledger_in, phase_of, registry_in, where_in}, ImageKinds.doing, Setting.{Setting, ledger_cell, map_cell, registry_cell}, Steps.{Inv, history_in}, Values.{ActorValue, actor_of}, View.view}
 use Rattle.core_pages.specs.volap_cell.specs.Setting as setting
 use Rattle.core_pages.specs.volap_cell.specs.declared.command.Work.TheVariants as work_is
-use Rattle.whole_steps.proofs.{Alone.{everyone-of, whole-history}, Known.{about-in, has-cells, me-in, quiet-in, seen-self, valid-in}}
+use Rattle.whole_steps.proofs.{Alone.{everyone-of, whole-history}, Calling.began-with, Known.{about-in, has-cells, me-in, quiet-in, seen-self, valid-in}}
 use Rattle.whole_steps.specs.{Commands.IsAtPage, Pages.{CanTell, StandsAt, TellsTree}, Seats.{KnowsAll, state_at}, Sole.IsSole}
 
 pub if-ok-on : {T E : Type 0} {P Q : T → Type 0} (r : Result T E) → IfOk r P → ((x : T) → P x → Q x) → IfOk r Q
@@ -56,15 +59,31 @@ module _ (f : Floor) (p : Player) (sole : IsSole f p) (knows : KnowsAll f.table 
   same-setting : sole.holds.possible.valid.setting ≡ (actor_of p.actor).setting
   same-setting = about-in f p sole sole.holds.possible.valid.setting sole.holds.possible.valid.world seen-is inv
 
-  module _ (shard : ℕ) (at : IsAtPage (subject.Tree shard) p) where
+  many-is : cell_count f.table ≡ setting.cell_count sole.holds.possible.valid.setting
+  many-is = sym (sym sole.holds.possible.valid.wide ∙ sym sole.holds.possible.cell_count ∙ sole.holds.wide)
+
+  count-in : HasCountIn (cell_count f.table) (state_at p.seat)
+  count-in t v looks inv_v = ap setting.cell_count (about-in f p sole t v looks inv_v ∙ sym same-setting) ∙ sym many-is
+
+  few : cell_count f.table < 2 ^ 32
+  few = (let low = inv.holds.numbering.setting.few in omega (arith, low, many-is))
+
+  there : HasCells (cell_count f.table) (state_at p.seat)
+  there = has-cells f.table p.seat (everyone-of f p sole) knows
+
+  module _ (shard : ℕ) (at : IsAtPage f.hierarchy (Tree shard) p) where
+    -- what the command does
+    works : (actor_of p.actor).command ≡ doing (length at.older) (work_is.Page (subject.Tree shard) true false)
+    works = (let same : at.subject ≡ subject.Tree shard = (let asks = at.asks in cc) in at.command ∙ ap (λ (x : Subject). doing (length at.older) (work_is.Page x true false)) same)
+
     command : (sole.holds.possible.valid.world).actors p.number ≡ actor_of p.actor
     command = me-in f p sole sole.holds.possible.valid.world seen-is
 
     live : is_live (sole.holds.possible.valid.setting).workers (history_in sole.holds.possible.valid.world) shard ≡ true
     live =
-        let told = inv.holds.telling.progress p.number (record { of = at.of; work = work_is.Page (subject.Tree shard) true false }) (ap (λ (a : ActorValue). a.command) command ∙ at.command) in
-        let long : length (history_in sole.holds.possible.valid.world) ≡ at.of + 1 = ap (λ (l : List Event). length l) (whole-history f p sole) ∙ at.next in
-        live-now (sole.holds.possible.valid.setting).workers (history_in sole.holds.possible.valid.world) at.of shard told.0.0 long told.0.1 ∙ told.2
+        let told = inv.holds.telling.progress p.number (record { of = length at.older; work = work_is.Page (subject.Tree shard) true false }) (ap (λ (a : ActorValue). a.command) command ∙ works) in
+        let long : length (history_in sole.holds.possible.valid.world) ≡ length at.older + 1 = ap (λ (l : List Event). length l) (whole-history f p sole) ∙ began-with at in
+        live-now (sole.holds.possible.valid.setting).workers (history_in sole.holds.possible.valid.world) (length at.older) shard told.0.0 long told.0.1 ∙ told.2
 
     host : (x : ℕ) × (host_of shard (view sole.holds.possible.valid.setting sole.holds.possible.valid.world).registry ≡ Some x) × (is_on (sole.holds.possible.valid.setting).workers (history_in sole.holds.possible.valid.world) shard x ≡ true)
     host = host-on (sole.holds.possible.valid.setting).workers (history_in sole.holds.possible.valid.world) (view sole.holds.possible.valid.setting sole.holds.possible.valid.world).registry inv.holds.lineage.front shard
@@ -87,9 +106,8 @@ module _ (f : Floor) (p : Player) (sole : IsSole f p) (knows : KnowsAll f.table 
 
     can-see : CanSeeIn (state_at p.seat) (cell_count f.table) (inv.ghost_of.gate shard)
     can-see t v looks inv_v =
-        let same : (sole.holds.possible.valid.world).cells ≡ v.cells = sym seen-is.cells ∙ looks.cells in
-        let about = about-in f p sole t v looks inv_v in (
-          ap setting.cell_count (about ∙ sym same-setting) ∙ sym sole.holds.possible.valid.wide ∙ sym sole.holds.possible.cell_count ∙ sole.holds.wide,
+        let same : (sole.holds.possible.valid.world).cells ≡ v.cells = sym seen-is.cells ∙ looks.cells in (
+          count-in t v looks inv_v,
           record {
             gate = subst (λ (c : ℕ → CellValue). IsSome (gate_shard (c (inv.ghost_of.gate shard)))) same (subst IsSome (sym gate-of.1) refl);
             stands = subst (λ (c : ℕ → CellValue). phase_of (c (inv.ghost_of.gate shard)) ≢ Some Gone) same gate-of.2;
@@ -105,9 +123,8 @@ module _ (f : Floor) (p : Player) (sole : IsSole f p) (knows : KnowsAll f.table 
     tells-tree : TellsTree f.hierarchy f.with (cell_count f.table) (state_at p.seat) shard
     tells-tree = record {
       valid = valid-in f p sole knows;
-      there = has-cells f.table p.seat (everyone-of f p sole) knows;
-      few = (let few = inv.holds.numbering.setting.few in
-          let many : setting.cell_count sole.holds.possible.valid.setting ≡ cell_count f.table = sym sole.holds.possible.valid.wide ∙ sym sole.holds.possible.cell_count ∙ sole.holds.wide in omega (arith, few, many));
+      there = there;
+      few = few;
       gate = inv.ghost_of.gate shard;
       stands = stands-at;
       can_see = can-see;
@@ -115,7 +132,22 @@ module _ (f : Floor) (p : Player) (sole : IsSole f p) (knows : KnowsAll f.table 
     }
 
   -- the page that is due can be made
-  pub can-tell : (about : Subject) → IsAtPage about p → CanTell f.hierarchy f.with (cell_count f.table) (state_at p.seat) about
-  can-tell (subject.Tree shard) at = tells-tree shard at
-  can-tell subject.Shards at = record { valid = valid-in f p sole knows; quiet = quiet-in f p sole at.no_part }
-  can-tell subject.Rows at = record { valid = valid-in f p sole knows; quiet = quiet-in f p sole at.no_part }
+  pub can-tell : (call : Call) → IsAtPage f.hierarchy call p → CanTell f.hierarchy f.with (cell_count f.table) (state_at p.seat) call
+  can-tell (Tree shard) at = tells-tree shard at
+  can-tell Shards at = record { valid = valid-in f p sole knows; quiet = quiet-in f p sole at.no_part }
+  can-tell Audit at = record { valid = valid-in f p sole knows; quiet = quiet-in f p sole at.no_part }
+  can-tell (Group dim level filter) at = record {
+    valid = valid-in f p sole knows;
+    quiet = quiet-in f p sole at.no_part;
+    there = there;
+    count = count-in;
+    few = few;
+    asks = at.valid;
+    session = p.number;
+    past = at.older;
+    called = ap (λ (c : ℕ → CellValue). (ledger_in (c ledger_cell)).history) seen-is.cells ∙ whole-history f p sole ∙ at.newest;
+  }
+  can-tell call at = absurd (page-only call at.subject at.asks)
+    where
+      page-only : (c : Call) (about : Subject) → class_of c ≡ class.Page about → ⊥
+      page-only c about e = cc

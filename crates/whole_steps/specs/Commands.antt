@@ -1,9 +1,9 @@
 -- Commands that are called at the seat that has all actors: what is asked of their actor before each step, and what the step comes to.
-use Rattle.std.specs.Prelude.{ℕ, ◌≡◌, ◌+◌, List, length, Option, None, true, false}
+use Rattle.std.specs.Prelude.{ℕ, ◌≡◌, ◌+◌, List, ◌∷◌, length, Option, None, true, false}
 use Rattle.call_steps.specs.Calls.{BeginsWith}
 use Rattle.core_pages.specs.Looks.{IsSeenOf, StateValue}
 use Rattle.dim_hierarchy.specs.Dimension.{Dimension}
-use Rattle.row_ledger.specs.{Right.Asks, declared.class.Subject.Subject, declared.page.Page.Page, declared.settings.{Call.Call, How.How}}
+use Rattle.row_ledger.specs.{Classes.class_of, Groups.IsCallOf, Right.Asks, declared.class.Subject.Subject, declared.event.Event.Event, declared.page.Page.Page, declared.settings.{Call.Call, How.How}}
 use Rattle.row_ledger.specs.declared.class.Class.TheVariants as class
 use Rattle.row_ledger.specs.declared.event.Event.TheVariants.{Called, Ended, Shown}
 use Rattle.call_steps.specs.seat_steps.specs.declared.floor.{Floor.Floor, Player.Player}
@@ -23,18 +23,21 @@ pub record HasCalledSole (f : Floor) (call : Call) (was now : Player) : Type 0 w
   pub begins : BeginsWith f call work job
   pub actor : actor_of now.actor ≡ record (actor_of was.actor) { command = doing (length added.older) work; job = job; seen = length now.seat.view.seen }
 
--- A page of this subject is due of the actor's command, which began with the newest event.
-pub record IsAtPage (subject : Subject) (p : Player) : Type 0 where
-  pub of : ℕ
-  pub command : (actor_of p.actor).command ≡ doing of (work_is.Page subject true false)
-  pub next : length p.seat.view.seen ≡ of + 1
+-- A page is due of the actor's command, which began with this call as the newest event.
+pub record IsAtPage (h : List Dimension) (call : Call) (p : Player) : Type 0 where
+  pub subject : Subject
+  pub asks : class_of call ≡ class.Page subject
+  pub valid : IsCallOf h call
+  pub older : List Event
+  pub newest : p.seat.view.seen ≡ Called p.number call ∷ older
+  pub command : (actor_of p.actor).command ≡ doing (length older) (work_is.Page subject true false)
   pub no_part : (actor_of p.actor).errand ≡ None
 
 -- The page that is due may be shown: the seat knows the whole state, of which it is a page.
 pub record CanShow (f : Floor) (shown : Page) (p : Player) : Type 0 where
-  pub subject : Subject
-  pub due : IsAtPage subject p
-  pub asked : Asks (class.Page subject) shown
+  pub call : Call
+  pub due : IsAtPage f.hierarchy call p
+  pub asked : Asks (class_of call) shown
   pub knows : KnowsAll f.table p.seat
   pub page : IsPageIn f.hierarchy (state_at p.seat) shown
 

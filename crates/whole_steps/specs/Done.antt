@@ -2,14 +2,14 @@
 use Rattle.std.specs.Prelude.{ℕ, ◌≡◌, ◌+◌, ◌≤◌, ⊤, Bool, false, List, [], ◌∷◌, ◌++◌, length, Option, Some, None}
 use Rattle.dim_hierarchy.specs.Dimension.{Dimension}
 use Rattle.row_ledger.specs.{declared.event.Event.Event, declared.page.Page.Page, declared.settings.Call.Call}
-use Rattle.row_ledger.specs.declared.event.Event.TheVariants.{Called, Ended, Shown}
+use Rattle.row_ledger.specs.declared.event.Event.TheVariants.{Called, Ended, Shown, Unknown}
 use Rattle.row_ledger.specs.declared.settings.Call.TheVariants.{Tree}
 use Rattle.row_ledger.specs.declared.settings.Decline.TheVariants as decline
 use Rattle.row_ledger.specs.declared.settings.How.TheVariants as how
 use Rattle.script_run.specs.Places.{begins_of}
 use Rattle.call_steps.specs.seat_steps.specs.declared.floor.{Floor.Floor, Player.Player}
 use Rattle.turn_table.specs.Numbered.{Extends}
-use Rattle.core_pages.specs.volap_cell.specs.{Setting.Setting, Sights.SeesPage, Steps.{Inv, history_in}, Values.{actor_of}, View.view, World.World, declared.command.{Command.Command, Work.Work}}
+use Rattle.core_pages.specs.volap_cell.specs.{Commands.server_of, Setting.Setting, Sights.SeesPage, Steps.{Inv, history_in}, Values.{actor_of}, View.view, World.World, declared.command.{Command.Command, Work.Work}}
 use Rattle.core_pages.specs.volap_cell.specs.declared.command.Work.TheVariants as work_is
 use Rattle.whole_steps.specs.{Commands.IsPageIn, Seats.state_at, Sole.{IsSameBut, StandsSole}}
 use Rattle.whole_steps.specs.declared.tells.Paged.{Paged}
@@ -63,6 +63,15 @@ pub record HasNotBegun (f : Floor) (was now : Player) : Type 0 where
   pub done : IsDoneSole f was now
   pub since : Extends now.seat.view.seen was.seat.view.seen
   pub only : begins_of now.seat.view.seen was.number ≡ begins_of was.seat.view.seen was.number
+
+-- The newest event notes that a command of the actor names what isn't known, first in this dimension; before it stands what had been seen,
+-- or more, in which the actor has begun nothing.
+pub record HasNotedUnknown (f : Floor) (dim : ℕ) (was now : Player) : Type 0 where
+  pub done : IsDoneSole f was now
+  pub older : List Event
+  pub since : Extends older was.seat.view.seen
+  pub only : begins_of older was.number ≡ begins_of was.seat.view.seen was.number
+  pub seen : now.seat.view.seen ≡ Unknown was.number (server_of (actor_of was.actor).role) dim ∷ older
 
 -- The page is one of a state that meets the invariant, and has this history.
 pub record IsPageAt (h : List Dimension) (history : List Event) (shown : Page) : Type 0 where

@@ -1,9 +1,11 @@
 //! How commands that are called at the seat that has all actors begin, show their pages and end.
-ghost use Rattle.std.specs.Prelude.{◌≡◌, true, false, OnErr, OnOk};
+ghost use Rattle.std.specs.Prelude.{◌≡◌, ◌≤◌, true, false, length, OnErr, OnOk};
 ghost use Rattle.call_steps.specs.Calls.{CanCall, CanEndCall};
 ghost use Rattle.row_ledger.specs.Classes.{class_of};
-ghost use Rattle.core_pages.specs.volap_cell.specs.ImageKinds.{asks_registry};
+ghost use Rattle.core_pages.specs.volap_cell.specs.ImageKinds.{IsFree, asks_registry};
+ghost use Rattle.core_pages.specs.volap_cell.specs.Values.{actor_of};
 ghost use Rattle.whole_steps.specs.Commands.{CanShow, HasCalledSole, HasEndedSole, HasShownSole};
+ghost use Rattle.whole_steps.specs.Done.{HasNotBegun, HasNotedUnknown};
 ghost use Rattle.whole_steps.specs.Sole.{HasWaited, StandsSole, player};
 
 use crate::adds::add;
@@ -83,6 +85,34 @@ fn begin_asking<R: Wait>(
     let workers = floor.with.workers;
     let step = NoteStep::Asking { call, workers };
     add(rt, alloc, floor, seat, number, actor, step)
+}
+
+/// The actor, which has nothing to do, notes that its next command names what is not known, first in this dimension. Where memory is
+/// wanting, it has begun nothing.
+pub fn note_unknown<R: Wait>(
+    rt: &R,
+    alloc: Global,
+    floor: &Floor,
+    seat: &mut Seat<Volap>,
+    number: u32,
+    actor: &mut Actor,
+    dim: u8,
+) -> Result<(), AllocError>
+    requires stands { StandsSole floor.now (player number actor.old seat.old) }
+    requires free { IsFree (actor_of actor.old) }
+    requires seen { (actor_of actor.old).seen ≤ length seat.old.view.seen }
+    ensures noted { OnOk result (HasNotedUnknown floor.now dim (player number actor.old seat.old) (player number actor.new seat.new)) }
+    ensures same { OnErr result (HasNotBegun floor.now (player number actor.old seat.old) (player number actor.new seat.new)) }
+{
+    add(
+        rt,
+        alloc,
+        floor,
+        seat,
+        number,
+        actor,
+        NoteStep::Unknown { dim },
+    )
 }
 
 /// The page that is due of the actor's command is shown, which is one of the state that the seat knows. Takes no memory.

@@ -1,7 +1,9 @@
 //! Copies of pages.
 ghost use Rattle.std.specs.Prelude.{◌≡◌, IfOk, Ok};
 
-use row_ledger::{AuditLine, NodeLine, NodeList, Page, ShardLine, ShardList, TreePage};
+use row_ledger::{
+    AuditLine, GroupLines, GroupPage, NodeLine, NodeList, Page, ShardLine, ShardList, TreePage,
+};
 use std::alloc::{AllocError, Global};
 
 /// A copy of a line.
@@ -69,6 +71,10 @@ pub(crate) fn copy_page(alloc: Global, page: &Page) -> Result<Page, AllocError>
         Page::Audit(audit) => Page::Audit(AuditLine {
             agg: audit.agg,
             shards: audit.shards,
+        }),
+        Page::Group(group) => Page::Group(GroupPage {
+            lines: GroupLines::from_vec(Vec::from_slice(alloc, group.lines.as_slice())?),
+            all: group.all,
         }),
     })
 }

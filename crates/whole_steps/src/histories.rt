@@ -10,7 +10,7 @@ use crate::reads::{ReadsHistory, lend_history};
 use call_steps::of_volap_turns::Volap;
 use describing_set::Path;
 use dim_hierarchy::copy_filter;
-use row_ledger::{Call, Event, History};
+use row_ledger::{Event, History};
 use std::alloc::{AllocError, Global};
 use std::sync::Wait;
 use turn_table::{Seat, TurnTable};
@@ -24,23 +24,6 @@ fn copy_path(alloc: Global, path: &Path) -> Result<Path, AllocError>
         copy.push(*id)?;
     }
     Ok(copy)
-}
-
-/// A copy of a call.
-fn copy_call(call: &Call) -> Call
-    ensures { result ≡ call.now }
-{
-    match call {
-        Call::Sync(server) => Call::Sync(*server),
-        Call::Split(shard) => Call::Split(*shard),
-        Call::Move(shard, worker) => Call::Move(*shard, *worker),
-        Call::Balance(most) => Call::Balance(*most),
-        Call::Barrier => Call::Barrier,
-        Call::Settle => Call::Settle,
-        Call::Shards => Call::Shards,
-        Call::Tree(shard) => Call::Tree(*shard),
-        Call::Audit => Call::Audit,
-    }
 }
 
 /// A copy of an event. Takes memory for it.
@@ -64,6 +47,10 @@ fn copy_event(alloc: Global, event: &Event) -> Result<Event, AllocError>
             session: *session,
             server: *server,
             filter: copy_filter(alloc, filter)?,
+        }),
+        Event::Called { session, call } => Ok(Event::Called {
+            session: *session,
+            call: call.copy(alloc)?,
         }),
         Event::Shown { of, page } => Ok(Event::Shown {
             of: *of,
@@ -100,10 +87,6 @@ fn copy_small(event: &Event) -> Event
         },
         Event::Failed { of } => Event::Failed { of: *of },
         Event::Refused { session } => Event::Refused { session: *session },
-        Event::Called { session, call } => Event::Called {
-            session: *session,
-            call: copy_call(call),
-        },
         Event::Split {
             of,
             shard,

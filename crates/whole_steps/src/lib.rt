@@ -2,11 +2,11 @@
 //! is known exactly, and once each cell was taken and given back the whole state is.
 //!
 //! After `look_round` the seat knows what is in each cell (`knows`). `begin_call`, `show` and `end_call` push
-//! the newest events, with nothing between them (`begun`, `shown`, `ended`). `call_page` makes such a command
-//! whole, whose page is one of a state that meets the invariant (`paged`); `call_barrier` (`done`) and
-//! `call_settle`, with two pulls of each server (`settled`), are whole commands too. `reuse_all` uses all
-//! cells of gone gates again (`none`). `lend_history` (`told`) and `copy_history` (`all`) give out the
-//! history.
+//! the newest events, with nothing between them (`begun`, `shown`, `ended`), and `note_unknown` that of a
+//! command that does not begin (`noted`). `call_page` makes such a command whole, whose page is one of a state
+//! that meets the invariant (`paged`); `call_barrier` (`done`) and `call_settle`, with two pulls of each
+//! server (`settled`), are whole commands too. `reuse_all` uses all cells of gone gates again (`none`).
+//! `lend_history` (`told`) and `copy_history` (`all`) give out the history.
 //!
 //! Where memory is wanting, a call has not begun, or ends with that. So does the page of a tree whose shard
 //! does not stand. That a wait for a turn ends is not proved.
@@ -24,7 +24,7 @@ mod settles;
 mod tells;
 mod turns;
 
-pub use calls::{begin_call, end_call, show};
+pub use calls::{begin_call, end_call, note_unknown, show};
 pub use histories::copy_history;
 pub use reads::{ReadsHistory, lend_history};
 pub use reuses::reuse_all;

@@ -3,7 +3,6 @@ ghost use Rattle.std.specs.Prelude.{◌≡◌, ◌≤◌, [], ◌∷◌, length,
 ghost use Rattle.call_steps.specs.Calls.{CanCall};
 ghost use Rattle.row_ledger.specs.Classes.{class_of};
 ghost use Rattle.row_ledger.specs.Right.{Asks};
-ghost use Rattle.row_ledger.specs.declared.class.Class.TheVariants as class;
 ghost use Rattle.row_ledger.specs.declared.event.Event.TheVariants.{Ended};
 ghost use Rattle.row_ledger.specs.declared.settings.Call.TheVariants.{Barrier};
 ghost use Rattle.row_ledger.specs.declared.settings.How.TheVariants.{Fine};
@@ -11,7 +10,7 @@ ghost use Rattle.turn_table.specs.Seat.{cell_count};
 ghost use Rattle.core_pages.specs.volap_cell.specs.Values.{actor_of};
 ghost use Rattle.whole_steps.specs.Commands.{IsAtPage, IsPageIn};
 ghost use Rattle.whole_steps.specs.Done.{HasDone, HasNotBegun, HasPaged, HasToldPage, is_there};
-ghost use Rattle.whole_steps.specs.Pages.{CanTell};
+ghost use Rattle.whole_steps.specs.Pages.{CanTell, IsForPage};
 ghost use Rattle.whole_steps.specs.Seats.{HasEveryone, HasTurned, KnowsAll, state_at};
 ghost use Rattle.whole_steps.specs.Sole.{StandsSole, player};
 
@@ -23,7 +22,7 @@ use crate::turns::look_round;
 use call_steps::of_seat_steps::Floor;
 use call_steps::of_volap_turns::Volap;
 use core_pages::volap_cell::{Actor, Command, Work};
-use row_ledger::{Call, Decline, How, Page, Subject};
+use row_ledger::{Call, Decline, How, Page};
 use std::alloc::{AllocError, Global};
 use std::marker::Brand;
 use std::sync::Wait;
@@ -42,24 +41,24 @@ pub enum Paged {
     NotBegun,
 }
 
-/// The page of this subject of the state that the seat knows, and the seat, which holds no cell.
+/// The page of this call in the state that the seat knows, and the seat, which holds no cell.
 pub fn make_page<R: Wait>(
     rt: &R,
     alloc: Global,
     floor: &Floor,
     seat: Seat<Volap>,
-    subject: Subject,
+    call: &Call,
 ) -> (Seat<Volap>, Result<Page, AllocError>)
     requires everyone { HasEveryone floor.now.table seat }
     requires knows { KnowsAll floor.now.table seat }
-    requires can { CanTell floor.now.hierarchy floor.now.with (cell_count floor.now.table) (state_at seat) subject }
+    requires can { CanTell floor.now.hierarchy floor.now.with (cell_count floor.now.table) (state_at seat) call.now }
     ensures everyone { HasEveryone floor.now.table result.0 }
     ensures turned { HasTurned seat result.0 }
     ensures bare { result.0.ranks ≡ [] }
     ensures page { IfOk result.1 (λ p. IsPageIn floor.now.hierarchy (state_at seat) p) }
-    ensures asked { IfOk result.1 (λ p. Asks (class.Page subject) p) }
+    ensures asked { IfOk result.1 (λ p. Asks (class_of call.now) p) }
 {
-    make_from::<R, Brand>(rt, alloc, floor, seat, subject)
+    make_from::<R, Brand>(rt, alloc, floor, seat, call)
 }
 
 /// The same, of a seat that the call picks.
@@ -68,20 +67,20 @@ fn make_from<R: Wait, B: Start>(
     alloc: Global,
     floor: &Floor,
     seat: Seat<Volap>,
-    subject: Subject,
+    call: &Call,
 ) -> (Seat<Volap>, Result<Page, AllocError>)
     requires start { seat ≡ B.seat }
     requires everyone { HasEveryone floor.now.table seat }
     requires knows { KnowsAll floor.now.table seat }
-    requires can { CanTell floor.now.hierarchy floor.now.with (cell_count floor.now.table) (state_at seat) subject }
+    requires can { CanTell floor.now.hierarchy floor.now.with (cell_count floor.now.table) (state_at seat) call.now }
     ensures everyone { HasEveryone floor.now.table result.0 }
     ensures turned { HasTurned seat result.0 }
     ensures bare { result.0.ranks ≡ [] }
     ensures page { IfOk result.1 (λ p. IsPageIn floor.now.hierarchy (state_at seat) p) }
-    ensures asked { IfOk result.1 (λ p. Asks (class.Page subject) p) }
+    ensures asked { IfOk result.1 (λ p. Asks (class_of call.now) p) }
 {
     let mut looks = Looks::<R, B>::new(rt, &floor.table, seat);
-    let page = page_of(alloc, floor, &mut looks, subject);
+    let page = page_of(alloc, floor, &mut looks, call);
     (looks.end(), page)
 }
 
@@ -109,15 +108,15 @@ fn tell<R: Wait>(
     seat: Seat<Volap>,
     number: u32,
     actor: &mut Actor,
-    subject: Subject,
+    call: &Call,
 ) -> (Seat<Volap>, Paged)
     requires stands { StandsSole floor.now (player number actor.old seat) }
     requires knows { KnowsAll floor.now.table seat }
-    requires due { IsAtPage subject (player number actor.old seat) }
+    requires due { IsAtPage floor.now.hierarchy call.now (player number actor.old seat) }
     requires noted { (actor_of actor.old).seen ≤ length seat.view.seen }
     ensures told { HasToldPage floor.now result.1 (player number actor.old seat) (player number actor.new result.0) }
 {
-    let (mut seat, page) = make_page(rt, alloc, floor, seat, subject);
+    let (mut seat, page) = make_page(rt, alloc, floor, seat, call);
     match with_copy(alloc, page) {
         Ok((page, copy)) => {
             show(rt, alloc, floor, &mut seat, number, actor, page);
@@ -131,7 +130,7 @@ fn tell<R: Wait>(
     }
 }
 
-/// The actor calls for the page of this subject, for which the seat takes each cell once and gives it back.
+/// The actor makes this call for a page, for which the seat takes each cell once and gives it back.
 pub fn call_page<R: Wait>(
     rt: &R,
     alloc: Global,
@@ -140,11 +139,10 @@ pub fn call_page<R: Wait>(
     number: u32,
     actor: &mut Actor,
     call: &Call,
-    subject: Subject,
 ) -> (Seat<Volap>, Paged)
     requires stands { StandsSole floor.now (player number actor.old seat) }
     requires begins { CanCall floor.now call.now (player number actor.old seat) }
-    requires class { class_of call.now ≡ class.Page subject }
+    requires page { IsForPage call.now }
     ensures paged { HasPaged floor.now call.now result.1 (player number actor.old seat) (player number actor.new result.0) }
 {
     let mut seat = seat;
@@ -153,7 +151,7 @@ pub fn call_page<R: Wait>(
         return (seat, Paged::NotBegun);
     }
     if is_there(actor) {
-        return tell(rt, alloc, floor, seat, number, actor, subject);
+        return tell(rt, alloc, floor, seat, number, actor, call);
     }
     let how = How::Declined(Decline::Unknown);
     end_call(rt, alloc, floor, &mut seat, number, actor, how);

@@ -11,13 +11,13 @@ pub call_barrier-requires-clause-stands : goal.call_barrier-requires-clause-stan
 call_barrier-requires-clause-stands g c = sole-of c.requires.are c.requires.all c.args.floor.now c.requires.about c.own_number-number.result c.args.own.now (own-in c.requires.are c.requires.all c.own_number-number.result c.own_number-number.ensures c.in_default.ensures.none)
 
 pub call_barrier-requires-clause-begins : goal.call_barrier-requires-clause-begins
-call_barrier-requires-clause-begins g c = can-call c.requires.are c.requires.all c.args.floor.now c.requires.about c.own_number-number.result c.args.own.now (own-in c.requires.are c.requires.all c.own_number-number.result c.own_number-number.ensures c.in_default.ensures.none) (own-role c.requires.are c.requires.all c.own_number-number.result c.own_number-number.ensures c.in_default.ensures.none) Barrier tt (λ k e. cc)
+call_barrier-requires-clause-begins g c = can-call c.requires.are c.requires.all c.args.floor.now c.requires.about c.own_number-number.result c.args.own.now (own-in c.requires.are c.requires.all c.own_number-number.result c.own_number-number.ensures c.in_default.ensures.none) (own-role c.requires.are c.requires.all c.own_number-number.result c.own_number-number.ensures c.in_default.ensures.none) Barrier tt (λ k e. cc) tt
 
 pub call_barrier-done-requires-clause-stands : goal.call_barrier-done-requires-clause-stands
 call_barrier-done-requires-clause-stands g c = sole-of c.requires.are c.requires.all c.args.floor.now c.requires.about c.in-Some.number c.in-Some-taken.actor (role-in c.requires.are c.requires.all c.in-Some.number c.in-Some.ensures.some.0 c.in-Some-taken.actor c.in-Some-taken.ensures.some.1 c.in-Some.ensures.some.1)
 
 pub call_barrier-done-requires-clause-begins : goal.call_barrier-done-requires-clause-begins
-call_barrier-done-requires-clause-begins g c = can-call c.requires.are c.requires.all c.args.floor.now c.requires.about c.in-Some.number c.in-Some-taken.actor (role-in c.requires.are c.requires.all c.in-Some.number c.in-Some.ensures.some.0 c.in-Some-taken.actor c.in-Some-taken.ensures.some.1 c.in-Some.ensures.some.1) (role-role c.requires.are c.requires.all c.in-Some.number c.in-Some.ensures.some.0 c.in-Some-taken.actor c.in-Some-taken.ensures.some.1 c.in-Some.ensures.some.1) Barrier tt (λ k e. cc)
+call_barrier-done-requires-clause-begins g c = can-call c.requires.are c.requires.all c.args.floor.now c.requires.about c.in-Some.number c.in-Some-taken.actor (role-in c.requires.are c.requires.all c.in-Some.number c.in-Some.ensures.some.0 c.in-Some-taken.actor c.in-Some-taken.ensures.some.1 c.in-Some.ensures.some.1) (role-role c.requires.are c.requires.all c.in-Some.number c.in-Some.ensures.some.0 c.in-Some-taken.actor c.in-Some-taken.ensures.some.1 c.in-Some.ensures.some.1) Barrier tt (λ k e. cc) tt
 
 pub returns-in_default-clause-are : goal.returns-in_default-clause-are
 returns-in_default-clause-are g c = own-after c.requires.are c.requires.all c.args.floor.now c.requires.about c.own_number-number.result c.args.own.now (own-in c.requires.are c.requires.all c.own_number-number.result c.own_number-number.ensures c.in_default.ensures.none) c.call_barrier.new.actor c.call_barrier.new.seat (barrier-done c.args.floor.now Barrier c.own_number-number.result c.args.own.now c.call_barrier.new.actor c.args.seat.now c.call_barrier.new.seat (λ of. Ended of Fine ∷ []) c.call_barrier.result c.call_barrier.ensures.done c.call_barrier.ensures.same) (barrier-later c.args.floor.now Barrier c.own_number-number.result c.args.own.now c.call_barrier.new.actor c.args.seat.now c.call_barrier.new.seat (λ of. Ended of Fine ∷ []) c.call_barrier.result c.call_barrier.ensures.done c.call_barrier.ensures.same) c.own_number-number.ensures

@@ -8,13 +8,13 @@ pub call_page-requires-clause-stands : goal.call_page-requires-clause-stands
 call_page-requires-clause-stands g c = sole-of c.requires.are c.requires.all c.args.floor.now c.requires.about c.own_number-number.result c.args.own.now (own-in c.requires.are c.requires.all c.own_number-number.result c.own_number-number.ensures c.in_default.ensures.none)
 
 pub call_page-requires-clause-begins : goal.call_page-requires-clause-begins
-call_page-requires-clause-begins g c = can-call c.requires.are c.requires.all c.args.floor.now c.requires.about c.own_number-number.result c.args.own.now (own-in c.requires.are c.requires.all c.own_number-number.result c.own_number-number.ensures c.in_default.ensures.none) (own-role c.requires.are c.requires.all c.own_number-number.result c.own_number-number.ensures c.in_default.ensures.none) c.args.call.now (page-may c.args.call.now c.args.subject c.requires.class) (page-no-sync c.args.call.now c.args.subject c.requires.class)
+call_page-requires-clause-begins g c = can-call c.requires.are c.requires.all c.args.floor.now c.requires.about c.own_number-number.result c.args.own.now (own-in c.requires.are c.requires.all c.own_number-number.result c.own_number-number.ensures c.in_default.ensures.none) (own-role c.requires.are c.requires.all c.own_number-number.result c.own_number-number.ensures c.in_default.ensures.none) c.args.call.now (page-may c.args.call.now c.requires.page.0 c.requires.page.1) (page-no-sync c.args.call.now c.requires.page.0 c.requires.page.1) c.requires.valid
 
 pub call_page-seat-requires-clause-stands : goal.call_page-seat-requires-clause-stands
 call_page-seat-requires-clause-stands g c = sole-of c.requires.are c.requires.all c.args.floor.now c.requires.about c.in-Some.number c.in-Some-taken.actor (role-in c.requires.are c.requires.all c.in-Some.number c.in-Some.ensures.some.0 c.in-Some-taken.actor c.in-Some-taken.ensures.some.1 c.in-Some.ensures.some.1)
 
 pub call_page-seat-requires-clause-begins : goal.call_page-seat-requires-clause-begins
-call_page-seat-requires-clause-begins g c = can-call c.requires.are c.requires.all c.args.floor.now c.requires.about c.in-Some.number c.in-Some-taken.actor (role-in c.requires.are c.requires.all c.in-Some.number c.in-Some.ensures.some.0 c.in-Some-taken.actor c.in-Some-taken.ensures.some.1 c.in-Some.ensures.some.1) (role-role c.requires.are c.requires.all c.in-Some.number c.in-Some.ensures.some.0 c.in-Some-taken.actor c.in-Some-taken.ensures.some.1 c.in-Some.ensures.some.1) c.args.call.now (page-may c.args.call.now c.args.subject c.requires.class) (page-no-sync c.args.call.now c.args.subject c.requires.class)
+call_page-seat-requires-clause-begins g c = can-call c.requires.are c.requires.all c.args.floor.now c.requires.about c.in-Some.number c.in-Some-taken.actor (role-in c.requires.are c.requires.all c.in-Some.number c.in-Some.ensures.some.0 c.in-Some-taken.actor c.in-Some-taken.ensures.some.1 c.in-Some.ensures.some.1) (role-role c.requires.are c.requires.all c.in-Some.number c.in-Some.ensures.some.0 c.in-Some-taken.actor c.in-Some-taken.ensures.some.1 c.in-Some.ensures.some.1) c.args.call.now (page-may c.args.call.now c.requires.page.0 c.requires.page.1) (page-no-sync c.args.call.now c.requires.page.0 c.requires.page.1) c.requires.valid
 
 pub returns-in_default-clause-are : goal.returns-in_default-clause-are
 returns-in_default-clause-are g c = own-after c.requires.are c.requires.all c.args.floor.now c.requires.about c.own_number-number.result c.args.own.now (own-in c.requires.are c.requires.all c.own_number-number.result c.own_number-number.ensures c.in_default.ensures.none) c.call_page.new.actor c.call_page.result.0 (paged-done c.args.floor.now c.args.call.now c.own_number-number.result c.args.own.now c.call_page.new.actor c.args.seat c.call_page.result.0 c.call_page.result.1 c.call_page.ensures.paged) (paged-later c.args.floor.now c.args.call.now c.own_number-number.result c.args.own.now c.call_page.new.actor c.args.seat c.call_page.result.0 c.call_page.result.1 c.call_page.ensures.paged) c.own_number-number.ensures

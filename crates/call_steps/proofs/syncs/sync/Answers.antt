@@ -35,8 +35,8 @@ returns-then-is_ok g c =
       purse = ap (λ (a : ActorValue). a.purse) c.end_call.ensures.ended.actor ∙ ap (λ (a : ActorValue). a.purse) pulled.actor ∙ ap (λ (a : ActorValue). a.purse) c.in-Ok.ensures.begun.actor;
     }
 
-pub returns-else-is_ok : goal.returns-else-is_ok
-returns-else-is_ok g c =
+pub returns : goal.returns
+returns g c =
     let f = c.args.floor.now in
     let start = c.args.player.now in
     let call = Sync c.args.server in

@@ -1,5 +1,5 @@
 use Rattle.std.proofs.{Common.{◌≡◌, ◌∙◌, ℕ, ◌+◌, ◌-◌, ◌<◌, true, List, [], ◌∷◌, length, Some, sym, ap, subst, arith}, lemmas.Option.slice_get-get_or}
-use Rattle.script_form.specs.declared.script.{Command.Command, Command.TheVariants.Control}
+use Rattle.script_form.specs.declared.script.Command.{Command}
 use Rattle.session_runs.specs.Sessions.{BeginsNothing, DoesPhase, EachDoes, EachDoesFirst}
 use Rattle.threaded_run.proofs.{OnePhase.{back-twice, empty-none, front-closes-none, front-fits, front-stops, last-done, last-none, last-stops, together-done, together-stops}, WholeCalls.{map-err, map-ok}}
 use Rattle.threaded_run.specs.{Phases.StopsInPhase, Streams.{AllFit, NoneClosesAt}}
@@ -67,8 +67,8 @@ returns-clause-done g c =
     let many = length phase - 1 in
     let long : many + 1 ≡ length phase = (let some = c.if-many-eq0.false in omega (arith, some)) in
     let low : many < length phase = omega (arith, long) in
-    let last = Control c.in-Control.call in
-    let at = slice_get-get_or phase many c.index-phase-many-2.result low ∙ ap (λ (x : Command). Some x) (sym c.index-phase-many-2.is ∙ c.in-Control.is) in
+    let last = c.index-phase-many-2.result in
+    let at = slice_get-get_or phase many last low ∙ ap (λ (x : Command). Some x) (sym c.index-phase-many-2.is) in
     let first = subst (λ (l : List Command). EachDoes f.with f.hierarchy l past mid) c.split_at.ensures.front c.in-Ok.ensures.done in
     map-ok (EachDoes f.with f.hierarchy (last ∷ []) mid now) (DoesPhase f.with f.hierarchy phase past now) c.close_phase.result
     (last-done f phase many last at long c.requires.closes_last past mid now first) c.close_phase.ensures.done
@@ -83,8 +83,8 @@ returns-clause-stopped g c =
     let many = length phase - 1 in
     let long : many + 1 ≡ length phase = (let some = c.if-many-eq0.false in omega (arith, some)) in
     let low : many < length phase = omega (arith, long) in
-    let last = Control c.in-Control.call in
-    let at = slice_get-get_or phase many c.index-phase-many-2.result low ∙ ap (λ (x : Command). Some x) (sym c.index-phase-many-2.is ∙ c.in-Control.is) in
+    let last = c.index-phase-many-2.result in
+    let at = slice_get-get_or phase many last low ∙ ap (λ (x : Command). Some x) (sym c.index-phase-many-2.is) in
     let first = subst (λ (l : List Command). EachDoes f.with f.hierarchy l past mid) c.split_at.ensures.front c.in-Ok.ensures.done in
     map-err ((session : ℕ) → BeginsNothing session mid now) (StopsInPhase f.with f.hierarchy phase past now) c.close_phase.result
     (last-stops f phase many last at long c.requires.closes_last past mid now first) c.close_phase.ensures.none

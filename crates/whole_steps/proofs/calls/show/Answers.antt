@@ -21,4 +21,4 @@ pub add-requires-clause-kept : goal.add-requires-clause-kept
 add-requires-clause-kept g c q e = note-kept c.args.floor.now.hierarchy q (Shown c.args.page) (ap (λ (a : ActorValue). a.errand) e ∙ c.requires.shows.due.no_part)
 
 pub returns : goal.returns
-returns g c = record { shown = has-shown c.args.page c.requires.shows.subject c.requires.shows.due (when-ok c.add.result c.add.ensures.made (c.add.ensures.sure refl)) }
+returns g c = record { shown = has-shown c.args.page c.requires.shows.due (when-ok c.add.result c.add.ensures.made (c.add.ensures.sure refl)) }

@@ -1,13 +1,12 @@
 use Rattle.std.proofs.Common.{◌∙◌, ◌+◌, refl, sym}
-use Rattle.row_ledger.specs.declared.settings.Call.TheVariants.{Settle}
 use Rattle.whole_steps.proofs.{Alone.everyone-of, Paging.{err-of, not-begun, ok-of}, Settling.{failed-so, settled-so}, Turned.turned-self}
 use Rattle.whole_steps.specs.Sole.{player}
 use Rattle.whole_steps.proofs.settles.call_settle.Goals as goal
 
 pub returns-then-is_err : goal.returns-then-is_err
 returns-then-is_err g c = record {
-  settled = not-begun c.args.floor.now Settle c.args.number c.args.actor.now c.begin_call.new.actor c.args.seat.now c.args.seat.now c.begin_call.new.seat (turned-self c.args.seat.now)
-      (everyone-of c.args.floor.now (player c.args.number c.args.actor.now c.args.seat.now) c.requires.stands.sole) c.requires.begins (err-of c.begin_call.result c.begin_call.ensures.same (sym c.is_err.ensures.value ∙ c.if-is_err.true));
+  settled = not-begun c.args.floor.now c.args.number c.args.actor.now c.begin_call.new.actor c.args.seat.now c.args.seat.now c.begin_call.new.seat (turned-self c.args.seat.now)
+      (everyone-of c.args.floor.now (player c.args.number c.args.actor.now c.args.seat.now) c.requires.stands.sole) c.requires.begins.noted (err-of c.begin_call.result c.begin_call.ensures.same (sym c.is_err.ensures.value ∙ c.if-is_err.true));
 }
 
 pub returns-then-is_err-2 : goal.returns-then-is_err-2

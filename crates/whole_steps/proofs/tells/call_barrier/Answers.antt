@@ -1,4 +1,3 @@
-use Rattle.row_ledger.specs.declared.settings.Call.TheVariants.{Barrier}
 use Rattle.call_steps.specs.seat_steps.proofs.Since.{as-err}
 use Rattle.whole_steps.proofs.{Alone.everyone-of, Paging.{bare-done, ends-bare, not-begun}, Turned.turned-self}
 use Rattle.whole_steps.specs.Sole.{player}
@@ -19,4 +18,4 @@ returns-in_err-begin_call-clause-same g c =
     let f = c.args.floor.now in
     let s = c.args.seat.now in
     as-err c.from_residual.result
-    (not-begun f Barrier c.args.number c.args.actor.now c.begin_call.new.actor s s c.begin_call.new.seat (turned-self s) (everyone-of f (player c.args.number c.args.actor.now s) c.requires.stands.sole) c.requires.begins c.in_err-begin_call.ensures.same)
+    (not-begun f c.args.number c.args.actor.now c.begin_call.new.actor s s c.begin_call.new.seat (turned-self s) (everyone-of f (player c.args.number c.args.actor.now s) c.requires.stands.sole) c.requires.begins.noted c.in_err-begin_call.ensures.same)

@@ -16,7 +16,7 @@ begin_call-requires-clause-begins g c = can-call-on c.args.floor.now c.args.call
 
 pub returns-then-is_err : goal.returns-then-is_err
 returns-then-is_err g c = record {
-  paged = not-begun c.args.floor.now c.args.call.now c.args.number c.args.actor.now c.begin_call.new.actor c.args.seat c.look_round.new.seat c.begin_call.new.seat c.look_round.ensures.turned c.look_round.ensures.everyone c.requires.begins
+  paged = not-begun c.args.floor.now c.args.number c.args.actor.now c.begin_call.new.actor c.args.seat c.look_round.new.seat c.begin_call.new.seat c.look_round.ensures.turned c.look_round.ensures.everyone c.requires.begins.noted
       (err-of c.begin_call.result c.begin_call.ensures.same (sym c.is_err.ensures.value ∙ c.if-is_err.true));
 }
 
@@ -30,7 +30,7 @@ tell-requires-clause-knows g c =
 
 pub tell-requires-clause-due : goal.tell-requires-clause-due
 tell-requires-clause-due g c =
-    at-page c.args.floor.now c.args.call.now c.args.subject c.requires.class (player c.args.number c.args.actor.now c.look_round.new.seat) (player c.args.number c.begin_call.new.actor c.begin_call.new.seat)
+    at-page c.args.floor.now c.args.call.now c.requires.page.0 c.requires.page.1 (player c.args.number c.args.actor.now c.look_round.new.seat) (player c.args.number c.begin_call.new.actor c.begin_call.new.seat)
     (ok-of c.begin_call.result c.begin_call.ensures.begun (sym c.is_err.ensures.value ∙ c.if-is_err.false)) (can-call-on c.args.floor.now c.args.call.now c.args.number c.args.actor.now c.args.seat c.look_round.new.seat c.look_round.ensures.turned c.requires.begins)
     (sym c.is_there.ensures ∙ c.if-is_there.true)
 
@@ -49,14 +49,14 @@ end_call-requires-clause-stands g c = (ok-of c.begin_call.result c.begin_call.en
 
 pub end_call-requires-clause-ends : goal.end_call-requires-clause-ends
 end_call-requires-clause-ends g c =
-    ends-unknown c.args.floor.now c.args.call.now c.args.subject c.requires.class (player c.args.number c.args.actor.now c.look_round.new.seat) (player c.args.number c.begin_call.new.actor c.begin_call.new.seat)
+    ends-unknown c.args.floor.now c.args.call.now c.requires.page.0 c.requires.page.1 (player c.args.number c.args.actor.now c.look_round.new.seat) (player c.args.number c.begin_call.new.actor c.begin_call.new.seat)
     (ok-of c.begin_call.result c.begin_call.ensures.begun (sym c.is_err.ensures.value ∙ c.if-is_err.false)) (can-call-on c.args.floor.now c.args.call.now c.args.number c.args.actor.now c.args.seat c.look_round.new.seat c.look_round.ensures.turned c.requires.begins)
     (sym c.is_there.ensures ∙ c.if-is_there.false)
 
 pub returns : goal.returns
 returns g c = record {
   paged = (
-    of-tree c.args.floor.now c.args.call.now c.args.subject c.requires.class (player c.args.number c.args.actor.now c.look_round.new.seat) (player c.args.number c.begin_call.new.actor c.begin_call.new.seat)
+    of-tree c.args.floor.now c.args.call.now c.requires.page.0 c.requires.page.1 (player c.args.number c.args.actor.now c.look_round.new.seat) (player c.args.number c.begin_call.new.actor c.begin_call.new.seat)
         (ok-of c.begin_call.result c.begin_call.ensures.begun (sym c.is_err.ensures.value ∙ c.if-is_err.false)) (sym c.is_there.ensures ∙ c.if-is_there.false),
     unknown-so c.args.floor.now c.args.call.now c.args.number c.args.actor.now c.begin_call.new.actor c.end_call.new.actor c.args.seat c.look_round.new.seat c.begin_call.new.seat c.end_call.new.seat c.look_round.ensures.turned c.look_round.ensures.everyone c.look_round.ensures.knows
         c.requires.begins (ok-of c.begin_call.result c.begin_call.ensures.begun (sym c.is_err.ensures.value ∙ c.if-is_err.false)) c.end_call.ensures.ended,
