@@ -1,9 +1,9 @@
 -- The text that a history tells of a script: a line or a page for each command, in the order of the script, phase by phase.
 use Rattle.std.specs.{Fmt.{decimal, signed_decimal}, List.{flat_map, join_by}, Option.option_map_or, Prelude.{ℕ, ◌+◌, ℤ, ◌==◌, Bool, false, Option, Some, None, option_and_then, if◌then◌else◌, List, [], ◌∷◌, ◌++◌, length, take, find, codes}}
-use Rattle.dim_hierarchy.specs.Concept.{number_of}
+use Rattle.dim_hierarchy.specs.Concept.{level_of, number_of}
 use Rattle.measure_agg.specs.Aggregate.{Aggregate}
 use Rattle.describing_set.specs.{declared.part.Part.Part, declared.set.DescSet.DescSet}
-use Rattle.row_ledger.specs.{Past.{event_at, page_of}, declared.event.Event.Event, declared.event.Event.TheVariants.{Acked, Answered, Unknown, Split, Ended}, declared.page.AuditLine.AuditLine, declared.page.NodeLine.NodeLine, declared.page.Page.Page, declared.page.ShardLine.ShardLine, declared.page.TreePage.TreePage, declared.settings.Call.Call, declared.settings.Decline.Decline, declared.settings.How.How, declared.settings.How.TheVariants.{Fine, Balanced, Declined, Postponed, NoMemory}, declared.settings.Use.Use}
+use Rattle.row_ledger.specs.{Past.{event_at, page_of}, declared.event.Event.Event, declared.event.Event.TheVariants.{Acked, Answered, Unknown, Split, Ended}, declared.page.AuditLine.AuditLine, declared.page.GroupLine.GroupLine, declared.page.NodeLine.NodeLine, declared.page.Page.Page, declared.page.ShardLine.ShardLine, declared.page.TreePage.TreePage, declared.settings.Call.Call, declared.settings.Decline.Decline, declared.settings.How.How, declared.settings.How.TheVariants.{Fine, Balanced, Declined, Postponed, NoMemory}, declared.settings.Use.Use}
 use Rattle.row_ledger.specs.declared.page.Page.TheVariants as page
 use Rattle.row_ledger.specs.declared.settings.Call.TheVariants as call
 use Rattle.row_ledger.specs.declared.settings.Decline.TheVariants as decline
@@ -123,10 +123,19 @@ shard_said shard =
 abbrev pub audit_said : AuditLine → List ℕ
 audit_said audit = total_text audit.agg ++ (codes " shards " ++ decimal audit.shards)
 
--- a line for each shard; a line for the tree, and one for each of its groups; or the line of an audit
+-- a concept, by its level and its number within it, and the aggregate of its rows
+abbrev pub group_said : GroupLine → List ℕ
+group_said group = decimal (level_of group.id) ++ (codes ":" ++ (decimal (number_of group.id) ++ (codes " " ++ total_text group.agg)))
+
+-- all rows of a page of groups
+abbrev pub all_said : Aggregate → List ℕ
+all_said all = codes "all " ++ total_text all
+
+-- a line for each shard; a line for the tree, and one for each of its groups; the line of an audit; or a line for each concept, and one for all rows
 abbrev pub page_text : ℕ → Page → List ℕ
 page_text n (page.Shards shards) = flat_map (λ shard. line n (codes "shard") (shard_said shard)) shards
 page_text n (page.Audit audit) = line n (codes "audit") (audit_said audit)
+page_text n (page.Group group) = flat_map (λ one. line n (codes "group") (group_said one)) group.lines ++ line n (codes "group") (all_said group.all)
 page_text n (page.Tree tree) = line n (codes "tree") (tree_said tree) ++ flat_map (λ node. line n (codes "node") (node_said node)) tree.nodes
 
 -- what is told of a command that began at a place: the page that was shown for it, or else one line

@@ -134,7 +134,8 @@ impl Answer {
         }
     }
 
-    /// What is said of a command by how it ended; only a called one ends so.
+    /// What is said of a command by how it ended. An insert or a query never ends so, and a group without a page
+    /// found no memory.
     fn of_end(command: &Command, split: Option<&Event>, how: How) -> Answer
         ensures { said result ≡ end_text command.now (option_copied split.entry) how }
     {

@@ -1,12 +1,13 @@
 //! The lines of the pages that commands show.
 ghost use Rattle.std.specs.Prelude.{◌≡◌, ◌++◌, codes, OnOk, string_bytes};
 ghost use Rattle.std.specs.List.{flat_map};
-ghost use Rattle.answer_text.specs.Printed.{audit_said, line, node_said, page_text, shard_said, tree_said};
+ghost use Rattle.answer_text.specs.Printed.{all_said, audit_said, group_said, line, node_said, page_text, shard_said, tree_said};
 
 use crate::answer::Total;
 use describing_set::{DescSet, Part};
 use dim_hierarchy::ConceptId;
-use row_ledger::{AuditLine, NodeLine, Page, ShardLine, TreePage};
+use measure_agg::Agg;
+use row_ledger::{AuditLine, GroupLine, NodeLine, Page, ShardLine, TreePage};
 use std::alloc::AllocError;
 use std::fmt::{self, Write};
 
@@ -177,6 +178,24 @@ impl fmt::Display for AuditText<'_> {
     }
 }
 
+/// What is said of a concept that rows are under.
+#[derive(Drop)]
+struct GroupText<'a>(&'a GroupLine);
+
+impl fmt::Display for GroupText<'_> {
+    ghost use Rattle.std.specs.Prelude.{Some};
+    ghost use Rattle.answer_text.specs.Printed.{group_said};
+
+    ghost output = { λ g. Some (group_said g.0.now) };
+
+    fn fmt<W: fmt::Write>(&self, f: &mut fmt::Formatter<W>) -> fmt::Result {
+        let level = self.0.id.level();
+        let number = self.0.id.number();
+        let total = Total(self.0.agg);
+        write!(f, "{level}:{number} {total}")
+    }
+}
+
 /// Adds the line of a group.
 fn push_node(text: &mut String, number: u64, node: &NodeLine) -> Result<(), AllocError>
     ensures { OnOk result (string_bytes text.new ≡ string_bytes text.old ++ line number (codes "node") (node_said node.now)) }
@@ -229,14 +248,44 @@ fn push_audit(text: &mut String, number: u64, audit: &AuditLine) -> Result<(), A
     writeln!(text, "{number} audit {said}")
 }
 
+/// Adds the line of a concept that rows are under.
+fn push_group(text: &mut String, number: u64, group: &GroupLine) -> Result<(), AllocError>
+    ensures { OnOk result (string_bytes text.new ≡ string_bytes text.old ++ line number (codes "group") (group_said group.now)) }
+{
+    let said = GroupText(group);
+    writeln!(text, "{number} group {said}")
+}
+
+/// Adds the lines of concepts that rows are under.
+fn push_groups(text: &mut String, number: u64, groups: &[GroupLine]) -> Result<(), AllocError>
+    ensures { OnOk result (string_bytes text.new ≡ string_bytes text.old ++ flat_map (λ one. line number (codes "group") (group_said one)) groups.now) }
+{
+    for group in groups {
+        push_group(text, number, group)?;
+    }
+    Ok(())
+}
+
+/// Adds the line of all rows of a page of groups.
+fn push_all(text: &mut String, number: u64, all: &Agg) -> Result<(), AllocError>
+    ensures { OnOk result (string_bytes text.new ≡ string_bytes text.old ++ line number (codes "group") (all_said all.now)) }
+{
+    let total = Total(*all);
+    writeln!(text, "{number} group all {total}")
+}
+
 /// Adds the lines of a page that a command with this number shows: one for each shard; one for a
-/// tree, and one for each of its groups; or one for all rows.
+/// tree, and one for each of its groups; one for all rows; or one for each concept, and one for all rows.
 pub fn push_page(text: &mut String, number: u64, page: &Page) -> Result<(), AllocError>
     ensures { OnOk result (string_bytes text.new ≡ string_bytes text.old ++ page_text number page.now) }
 {
     match page {
         Page::Shards(shards) => push_shards(text, number, shards.as_slice()),
         Page::Audit(audit) => push_audit(text, number, audit),
+        Page::Group(group) => {
+            push_groups(text, number, group.lines.as_slice())?;
+            push_all(text, number, &group.all)
+        }
         Page::Tree(tree) => {
             push_head(text, number, tree)?;
             push_nodes(text, number, tree.nodes.as_slice())

@@ -76,6 +76,7 @@ fits-hall f s c with_is hierarchy_is fits =
     bare s (command.Insert new) fits = fits
     bare s (command.Query question) fits = fits
     bare s (command.Control c) fits = fits
+    bare s (command.Group dim level filter) fits = fits
 
 get-drop : (n i : ℕ) (xs : List Command) → slice_get (drop n xs) i ≡ slice_get xs (n + i)
 get-drop zero i xs = let same : i ≡ zero + i = omega arith in ap (slice_get xs) same

@@ -5,7 +5,7 @@ use Rattle.dim_hierarchy.specs.{Dimension.Dimension, declared.row.Row.Row}
 use Rattle.row_ledger.proofs.{Fresh.fresh-newest, Positions.event_at-older}
 use Rattle.row_ledger.specs.{Past.{before, call_at, ends_itself, event_at, has_ended, is_end_of, is_over, query_at}, Right.{EachEvent, Stands}, Site.Site, declared.event.Event.Event, declared.settings.Use.Use}
 use Rattle.row_ledger.specs.declared.event.Event.TheVariants as event
-use Rattle.script_form.specs.{declared.script.Command.Command, declared.script.Command.TheVariants.{Control, Insert, Query}}
+use Rattle.script_form.specs.{declared.script.Command.Command, declared.script.Command.TheVariants.{Control, Group, Insert, Query}}
 use Rattle.script_run.specs.{Places.{are_over, end_of, is_over_at}, Runs.{Begins, BeginsAt, InsertEnds, first_unknown}}
 use Rattle.olap_top.proofs.Zips.{AllZip-weaker}
 
@@ -67,6 +67,7 @@ insert-ends : (site : Site) (usable : ℕ → Bool) (with : Use) (h : List Dimen
     → BeginsAt with h history c place → IsTrue (is_over_at history place) → InsertEnds h history c place
 insert-ends site usable with h history each (Query question) place begins over = tt
 insert-ends site usable with h history each (Control called) place begins over = tt
+insert-ends site usable with h history each (Group dim level filter) place begins over = tt
 insert-ends site usable with h history each (Insert new) None begins over = tt
 insert-ends site usable with h history each (Insert new) (Some p) begins over = λ known. by known begins.0 begins.1 begins.2
   where

@@ -194,8 +194,10 @@ module _ {T E : Type 0} (r : Result T E) (wanted : Wanted) (s : Script) (ps : Li
 may-one : (s : Script) (c : Command) → Fits s c → 0 < length s.hierarchy → MayRun s.hierarchy s.with c
 may-one s (command.Insert new) fits dims = record { names = fits.1; allowed = fits.0 }
 may-one s (command.Query question) fits dims = record { names = fits.1; allowed = (fits.0, dims, fits.2) }
-may-one s (command.Control (call.Sync server)) fits dims = record { names = tt; allowed = fits }
-may-one s (command.Control _) fits dims = record { names = tt; allowed = tt }
+may-one s (command.Control (call.Sync server)) fits dims = record { names = tt; allowed = (fits, tt) }
+may-one s (command.Control (call.Group dim level filter)) fits dims = absurd fits
+may-one s (command.Control _) fits dims = record { names = tt; allowed = (tt, tt) }
+may-one s (command.Group dim level filter) fits dims = record { names = fits.3; allowed = (fits.0, fits.2, fits.4) }
 
 pub may-all : (wanted : Wanted) (s : Script) (ps : List (List Command)) (n : ℕ) (commands front back : List Command) (e : OnOneThread) → IsBehindPhases wanted s ps e → MayRunNext s ps n commands
     → front ≡ take n commands → back ≡ drop n commands → MayAllRun e.hierarchy e.with (front ++ back)

@@ -5,7 +5,7 @@ use Rattle.std.specs.FinMap as map
 use Rattle.dim_hierarchy.specs.{Concept.level_of, Dimension.{Dimension, concept_fault, dimension, find, find_dim, tree, with_concept}, Tree.{IsConcept, is_concept, leaf_level}}
 use Rattle.dim_hierarchy.specs.declared.hierarchy.ConceptFault.TheVariants as concept
 use Rattle.row_ledger.specs.declared.settings.Use.{Use}
-use Rattle.script_form.specs.{Causes.{cause_at, parent_of}, Fields.{Record, is_name, is_star}, Reading.after, Scripts.with_named, declared.script.Script.Script}
+use Rattle.script_form.specs.{Causes.{cause_at, parent_of}, Fields.{Record, is_name, is_star}, Scripts.{after, with_named}, declared.script.Script.Script}
 use Rattle.script_form.proofs.Standing.{Fine, afters, concept_after, concept_fine}
 use Rattle.volap_gen.proofs.{Growing.{IsFilled, StandsAt, concept_is, grown, is_new}, Walks.{key, walk}}
 
