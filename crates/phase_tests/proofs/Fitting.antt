@@ -4,7 +4,7 @@ use Rattle.std.specs.Prelude.{All}
 use Rattle.dim_hierarchy.specs.Dimension.{Dimension}
 use Rattle.row_ledger.specs.declared.settings.Use.{Use}
 use Rattle.script_form.specs.{Fits.Fits, declared.script.Command.Command, declared.script.Script.Script}
-use Rattle.script_form.specs.declared.script.Command.TheVariants.{Control, Insert, Query}
+use Rattle.script_form.specs.declared.script.Command.TheVariants.{Control, Group, Insert, Query}
 use Rattle.script_run.specs.{Phases.closes, Streams.NoneCloses}
 use Rattle.hall_hands.specs.seat_steps.specs.declared.floor.Floor.{Floor}
 use Rattle.threaded_run.specs.Streams.{AllFit, ClosesLast, FitsFloor}
@@ -64,6 +64,7 @@ one-fits : (s : Script) (f : Floor) → f.with ≡ s.with → f.hierarchy ≡ s.
 one-fits s f with h (Insert new) fits = subst (λ (x : Use × List Dimension). Fits (record { with = x.0; hierarchy = x.1; commands = [] }) (Insert new)) (λ i. (sym with i, sym h i)) fits
 one-fits s f with h (Query question) fits = subst (λ (x : Use × List Dimension). Fits (record { with = x.0; hierarchy = x.1; commands = [] }) (Query question)) (λ i. (sym with i, sym h i)) fits
 one-fits s f with h (Control call) fits = subst (λ (x : Use × List Dimension). Fits (record { with = x.0; hierarchy = x.1; commands = [] }) (Control call)) (λ i. (sym with i, sym h i)) fits
+one-fits s f with h (Group dim level filter) fits = subst (λ (x : Use × List Dimension). Fits (record { with = x.0; hierarchy = x.1; commands = [] }) (Group dim level filter)) (λ i. (sym with i, sym h i)) fits
 
 pub script-fits : (s : Script) (f : Floor) → f.with ≡ s.with → f.hierarchy ≡ s.hierarchy → All (Fits s) s.commands → AllFit f s.commands
 script-fits s f with h all i c at = one-fits s f with h c (of-get (Fits s) s.commands i c all at)

@@ -73,8 +73,8 @@ fn serve<R: Wait + Sync>(rt: &R, alloc: Global, hall: &Hall, pass: Pass, meet: &
     hand.end()
 }
 
-/// The session asks on another thread, while the hand serves. It wants a thread: where none can be made, `join` does its first call
-/// last, and the hand would wait for the session.
+/// The hand serves on another thread, while the session asks. Where no thread can be made, `join` does its first call last: so the
+/// session goes first, waits in vain and ends, and then the hand finds nobody.
 fn ask_beside<R: Threads + Wait + Sync>(
     rt: &R,
     alloc: Global,
@@ -92,17 +92,18 @@ fn ask_beside<R: Threads + Wait + Sync>(
     ensures session { IsPassOf hall.now result.0.0 × (result.0.0.number ≡ player.number) }
     ensures hand { IsBack hall.now hand result.1 }
 {
-    join(
+    let (hand, asked) = join(
         rt,
-        || -> (Pass, Asked)
-            requires { IsSync R.row × IsSessionWith hall.now 0 player seen × (length question.now ≡ length hall.now.hierarchy) × All IsNamePick question.now }
-            ensures { IsPassOf hall.entry.now result.0 × (result.0.number ≡ player.number) }
-        { ask(rt, alloc, hall, player, seen, question, meet) },
         || -> Pass
             requires { IsSync R.row × IsPassOf hall.now hand × IsHandRole hand.role }
             ensures { IsBack hall.entry.now hand result }
         { serve(rt, alloc, hall, hand, meet) },
-    )
+        || -> (Pass, Asked)
+            requires { IsSync R.row × IsSessionWith hall.now 0 player seen × (length question.now ≡ length hall.now.hierarchy) × All IsNamePick question.now }
+            ensures { IsPassOf hall.entry.now result.0 × (result.0.number ≡ player.number) }
+        { ask(rt, alloc, hall, player, seen, question, meet) },
+    );
+    (asked, hand)
 }
 
 /// A hall with a session and a hand, from its opening to its end; the state, and the answer to the session's query.

@@ -2,7 +2,7 @@
 use crate::scripts::ROUNDS;
 use dim_hierarchy::{Filter, Pick, Row};
 use measure_agg::Agg;
-use row_ledger::{Call, Decline, Event, How, Page};
+use row_ledger::{Call, Decline, Event, GroupLine, GroupPage, How, Page};
 use std::alloc::{AllocError, Global};
 
 /// What a history tells of, and how much is otherwise than it should be.
@@ -17,6 +17,7 @@ pub(crate) struct Counts {
     pub(crate) settles: u64,
     pub(crate) audits: u64,
     pub(crate) lists: u64,
+    pub(crate) groups: u64,
     pub(crate) splits: u64,
     pub(crate) moves: u64,
     pub(crate) faults: u64,
@@ -32,6 +33,7 @@ impl Counts {
         settles: 0,
         audits: 0,
         lists: 0,
+        groups: 0,
         splits: 0,
         moves: 0,
         faults: 0,
@@ -144,12 +146,28 @@ fn is_allowed(must: u64, may: u64, agg: &Agg) -> bool {
     u64::from(rows.count_ones()) == agg.count() && must & !rows == 0 && rows & !may == 0
 }
 
+/// Whether a line of a group is that of a round with these rows.
+fn is_line(line: &GroupLine, round: usize, rows: u64) -> bool {
+    // A row's measure is its bit.
+    let least = 1i64 << rows.trailing_zeros().min(62);
+    let greatest = 1i64 << 63u32.saturating_sub(rows.leading_zeros()).min(62);
+    line.id.level() == 1
+        && line.id.number() as usize == round
+        && line.agg.count() == u64::from(rows.count_ones())
+        && line.agg.sum() == i128::from(rows)
+        && line.agg.least() == Some(least)
+        && line.agg.greatest() == Some(greatest)
+}
+
 /// Whether a call may end so where there is memory.
 fn may_end(call: &Call, how: &How) -> bool {
     match call {
-        Call::Sync(_) | Call::Barrier | Call::Settle | Call::Shards | Call::Audit => {
-            matches!(how, How::Fine)
-        }
+        Call::Sync(_)
+        | Call::Barrier
+        | Call::Settle
+        | Call::Shards
+        | Call::Audit
+        | Call::Group { .. } => matches!(how, How::Fine),
         Call::Tree(_) => matches!(how, How::Fine | How::Declined(Decline::Unknown)),
         Call::Split(_) | Call::Move(_, _) => matches!(how, How::Fine | How::Declined(_)),
         Call::Balance(_) => matches!(how, How::Balanced { .. }),
@@ -284,7 +302,30 @@ impl Judge {
                 let there = tree.rows.saturating_add(tree.queued);
                 self.counts.check(some && there <= rows);
             }
+            Page::Group(group) => {
+                self.show_group(group);
+                self.counts.check(group.all.count() == rows);
+                self.counts
+                    .check(group.all.sum() == sum_in(self.begun.as_slice()));
+                add(&mut self.counts.groups);
+            }
         }
+    }
+
+    /// Compares the lines of a group by rounds with the rows: each round with a row has one, in their order.
+    fn show_group(&mut self, group: &GroupPage) {
+        let mut lines = group.lines.as_slice().iter();
+        for round in 0..self.begun.len() {
+            let rows = bits_at(self.begun.as_slice(), round);
+            if rows != 0 {
+                let is_right = match lines.next() {
+                    Some(line) => is_line(line, round, rows),
+                    None => false,
+                };
+                self.counts.check(is_right);
+            }
+        }
+        self.counts.check(lines.next().is_none());
     }
 
     /// Each server knows what is acknowledged by now.

@@ -2,7 +2,8 @@
 use crate::judge::{Counts, judged};
 use crate::meets::{ByHand, Together};
 use crate::runs::{events_of, run_script};
-use crate::scripts::{BEFORE, CLOSINGS, QUERIES, ROUNDS, ROWS, all_rounds, two_queries};
+use crate::scripts::{BEFORE, CLOSINGS, QUERIES, ROUNDS, ROWS, all_rounds, groups, two_queries};
+use crate::told::shown;
 use script_form::Script;
 use std::alloc::Global;
 use std::process::Abort;
@@ -19,6 +20,7 @@ fn check<R: Abort>(rt: &R, counts: &Counts) {
     assert_eq!(rt; counts.settles, settles);
     assert_eq!(rt; counts.audits, settles);
     assert_eq!(rt; counts.lists, settles);
+    assert_eq!(rt; counts.groups, settles);
     assert!(rt; counts.splits >= 1);
     assert!(rt; counts.moves >= 2);
 }
@@ -62,5 +64,20 @@ fn hands_do_parts_of_queries_in_a_phase(rt: HostRuntime) -> Result<(), Fail> {
     assert!(rt; meet.is_met());
     assert_eq!(rt; counts.faults, 0);
     assert_eq!(rt; counts.exact, 2);
+    Ok(())
+}
+
+/// What the groups are to show.
+const GROUPS: &str =
+    "1:0 has 3 of -13; 1:1 has 1 of 8; 1:3 has 1 of 4; all 5 of -1; 2:0 has 2 of -15; 2:1 has 1 of 2; all 3 of -13; all 0 of 0; unknown 0; ";
+
+// The rows of the first phase go in by two servers in any order, and its group is of all of them.
+#[test]
+fn groups_that_close_phases_show_their_lines(rt: HostRuntime) -> Result<(), Fail> {
+    let alloc = rt.alloc();
+    let state = run_script(&rt, alloc, groups(alloc)?, 0, &volap_io::Quiet)?;
+    let text = shown(alloc, events_of(&state));
+    drop(state);
+    assert_eq!(rt; text?.as_str(), GROUPS);
     Ok(())
 }

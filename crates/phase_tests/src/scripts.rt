@@ -66,7 +66,7 @@ fn push_closing(text: &mut String, round: u64) -> Result<(), AllocError> {
         1 => write!(text, "audit\n"),
         2 => write!(text, "shards\n"),
         3 => write!(text, "tree,{round}\n"),
-        _ => write!(text, "barrier\n"),
+        _ => write!(text, "group,place,1,*\n"),
     }
 }
 
@@ -108,6 +108,20 @@ pub(crate) fn all_rounds(alloc: Global) -> Result<Script, Fail>
     ensures fits { IfOk result (λ s. All (Fits s) s.commands) }
 {
     let text = rounds(alloc)?;
+    read(alloc, text.as_bytes())
+}
+
+/// Rows of three rounds through both servers, and the phase is closed by a group; then groups of a round's places, of rows of which there
+/// is none, and of a name that is no concept.
+pub(crate) fn groups(alloc: Global) -> Result<Script, Fail>
+    ensures settings { IfOk result (λ s. AreSettings s.with) }
+    ensures fits { IfOk result (λ s. All (Fits s) s.commands) }
+{
+    let mut text = head(alloc)?;
+    write!(text, "insert,0,1,a0\ninsert,1,2,b0\ninsert,0,4,b3\n")?;
+    write!(text, "insert,1,8,a1\ninsert,0,-16,a0\n")?;
+    write!(text, "group,place,1,*\ngroup,place,2,r0\n")?;
+    write!(text, "group,place,1,r4\ngroup,place,1,elsewhere\n")?;
     read(alloc, text.as_bytes())
 }
 

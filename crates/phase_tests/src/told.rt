@@ -1,5 +1,5 @@
 //! A history in words.
-use row_ledger::{Call, Event, How, Page};
+use row_ledger::{Call, Event, GroupPage, How, Page};
 use std::alloc::{AllocError, Global};
 use std::fmt::Write;
 
@@ -39,7 +39,24 @@ fn push_page(text: &mut String, page: &Page) -> Result<(), AllocError> {
             }
             Ok(())
         }
+        Page::Group(group) => push_group(text, group),
     }
+}
+
+/// Adds how many rows each concept of a page of a group has, and their sum, and so of all rows.
+fn push_group(text: &mut String, group: &GroupPage) -> Result<(), AllocError> {
+    for line in group.lines.as_slice() {
+        let level = line.id.level();
+        let number = line.id.number();
+        let agg = line.agg;
+        write!(
+            text,
+            "{level}:{number} has {} of {}; ",
+            agg.count(),
+            agg.sum()
+        )?;
+    }
+    write!(text, "all {} of {}; ", group.all.count(), group.all.sum())
 }
 
 /// Adds an event.
@@ -64,6 +81,19 @@ pub(crate) fn told(alloc: Global, events: &[Event]) -> Result<String, AllocError
     let mut text = String::new(alloc);
     for event in events {
         push_event(&mut text, event)?;
+    }
+    Ok(text)
+}
+
+/// The pages of a history, the oldest first, and what was named that is not known.
+pub(crate) fn shown(alloc: Global, events: &[Event]) -> Result<String, AllocError> {
+    let mut text = String::new(alloc);
+    for event in events {
+        match event {
+            Event::Shown { page, .. } => push_page(&mut text, page)?,
+            Event::Unknown { dim, .. } => write!(text, "unknown {dim}; ")?,
+            _ => {}
+        }
     }
     Ok(text)
 }

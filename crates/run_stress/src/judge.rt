@@ -1,8 +1,9 @@
 //! Whether the answers and pages of a history are such as it allows: a plain reading, event by event.
+use crate::groups::Asked;
 use crate::known::{Known, matching, must};
 use crate::shards::{Places, rows_of};
 use measure_agg::Agg;
-use row_ledger::{AuditLine, Event, Page};
+use row_ledger::{AuditLine, Event, GroupPage, Page};
 use std::alloc::{AllocError, Global};
 
 /// What was found of a history.
@@ -10,6 +11,8 @@ use std::alloc::{AllocError, Global};
 pub(crate) struct Found {
     pub(crate) answers: u64,
     pub(crate) pages: u64,
+    /// How many pages are of groups.
+    pub(crate) groups: u64,
     /// How many commands have ended.
     pub(crate) ends: u64,
     /// How many found no memory.
@@ -25,6 +28,7 @@ impl Found {
     pub(crate) const NOTHING: Found = Found {
         answers: 0,
         pages: 0,
+        groups: 0,
         ends: 0,
         starved: 0,
         splits: 0,
@@ -37,6 +41,7 @@ impl Found {
         Found {
             answers: self.answers.saturating_add(other.answers),
             pages: self.pages.saturating_add(other.pages),
+            groups: self.groups.saturating_add(other.groups),
             ends: self.ends.saturating_add(other.ends),
             starved: self.starved.saturating_add(other.starved),
             splits: self.splits.saturating_add(other.splits),
@@ -66,7 +71,10 @@ fn found_of(event: &Event) -> Found {
             found.ends = 1;
             found.starved = 1;
         }
-        Event::Shown { .. } => found.pages = 1,
+        Event::Shown { page, .. } => {
+            found.pages = 1;
+            found.groups = u64::from(matches!(page, Page::Group(_)));
+        }
         Event::Split { .. } => found.splits = 1,
         Event::Moved { .. } => found.moves = 1,
         _ => {}
@@ -80,7 +88,7 @@ fn bit_at(place: u32) -> Option<i64> {
 }
 
 /// Whether an aggregate is that of some of the rows that it may count, each once, and counts all that it must.
-fn is_allowed(must: u64, agg: &Agg, may: u64) -> bool {
+pub(crate) fn is_allowed(must: u64, agg: &Agg, may: u64) -> bool {
     let Ok(rows) = u64::try_from(agg.sum()) else {
         return false;
     };
@@ -129,14 +137,25 @@ impl Judge {
         is_allowed(rows, &audit.agg, rows) && audit.shards == self.places.count()
     }
 
-    /// Whether a page tells of all rows that have begun, and of the shards that stand. That of one tree tells of no more.
-    fn is_page(&self, page: &Page) -> bool {
+    /// Whether the page of the group that was called at a place tells of the acknowledged rows before it.
+    fn is_group(&self, events: &[Event], of: u64, page: &GroupPage) -> bool {
+        let before = &events[..(of as usize).min(events.len())];
+        match Asked::of(events, of) {
+            Some(asked) => asked.is_page(before, page),
+            None => false,
+        }
+    }
+
+    /// Whether the page of the command that was called at a place tells of all rows that have begun, or of those that match,
+    /// and of the shards that stand. That of one tree tells of no more.
+    fn is_page(&self, events: &[Event], of: u64, page: &Page) -> bool {
         let count = u64::from(self.known.begun.count_ones());
         match page {
             Page::Shards(lines) => {
                 self.places.are(lines.as_slice()) && rows_of(lines.as_slice()) == count
             }
             Page::Audit(audit) => self.is_audit(audit),
+            Page::Group(group) => self.is_group(events, of, group),
             Page::Tree(tree) => tree.rows.saturating_add(tree.queued) <= count,
         }
     }
@@ -145,7 +164,7 @@ impl Judge {
     fn is_right(&self, events: &[Event], before: &[Event], event: &Event) -> bool {
         match event {
             Event::Answered { of, agg } => self.is_answer(events, before, *of, agg),
-            Event::Shown { page, .. } => self.is_page(page),
+            Event::Shown { of, page } => self.is_page(events, *of, page),
             _ => true,
         }
     }

@@ -9,7 +9,7 @@ use row_ledger::{Call, Event, How};
 const SERVERS: usize = 3;
 
 /// A row alone.
-fn bit_of(row: &Row) -> u64 {
+pub(crate) fn bit_of(row: &Row) -> u64 {
     u64::try_from(row.measures).unwrap_or(0)
 }
 
@@ -96,7 +96,7 @@ impl Known {
 }
 
 /// What a row's concept of a dimension lies under at a level.
-fn up(row: &Row, dim: usize, level: u8) -> ConceptId {
+pub(crate) fn up(row: &Row, dim: usize, level: u8) -> ConceptId {
     let id = if dim == 0 {
         row.at.concept(0)
     } else {
@@ -180,7 +180,7 @@ fn is_picked(pick: &Pick, row: &Row, dim: usize) -> bool {
 }
 
 /// Whether a row matches a filter.
-fn matches(filter: &Filter, row: &Row) -> bool {
+pub(crate) fn matches(filter: &Filter, row: &Row) -> bool {
     for (dim, pick) in filter.as_slice().iter().enumerate() {
         if !is_picked(pick, row, dim) {
             return false;

@@ -3,13 +3,15 @@
 //! another.
 //! Four tests make 50 scripts each, and run each 20 times. The judge reads the events one by one: an answer
 //! has the rows that its server must know, only such as had begun, and each once; behind a settle it has all;
-//! and a page of all shards or of all rows tells of just the rows that had begun. Two tests hold a query or a
-//! session for a bounded time, until another thread has got somewhere. Scripts are the same each time,
-//! schedules are not.
+//! a page of all shards or of all rows tells of just the rows that had begun, and one of groups of those that
+//! match, each under its concept. Two tests hold a query or a session for a bounded time, until another thread
+//! has got somewhere. Scripts are the same each time, schedules are not.
 #![tactic(auto)]
 
 #[cfg(test)]
 mod chance;
+#[cfg(test)]
+mod groups;
 #[cfg(test)]
 mod judge;
 #[cfg(test)]

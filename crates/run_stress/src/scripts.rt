@@ -16,12 +16,12 @@ const DAYS: u32 = 4;
 /// How many commands a script has at most before those at its end. As many rows have a measure each.
 const MOST: u32 = 60;
 
-/// What queries pick of the first dimension.
+/// What queries and groups pick of the first dimension.
 const PLACES: [&str; 12] = [
     "*", "*", "*", "c0", "c1", "t0", "t1", "t2|t5", "t1|c0", "t3|t3", "t9|t6|t0", "nowhere",
 ];
 
-/// What queries pick of the second dimension.
+/// What they pick of the second dimension.
 const DATES: [&str; 6] = ["*", "*", "*", "d0", "d1|d3", "d2"];
 
 /// How large the stock is: hardly more cells than the shards begin with, or more.
@@ -100,14 +100,25 @@ fn push_work(made: &mut Made, dice: &mut Dice) -> Result<(), AllocError> {
     }
 }
 
+/// Adds a group by a level of one of the dimensions.
+fn push_group(made: &mut Made, dice: &mut Dice) -> Result<(), AllocError> {
+    let place = PLACES[dice.roll(12) as usize];
+    let date = DATES[dice.roll(6) as usize];
+    match dice.roll(3) {
+        0 => writeln!(made.text, "group,day,1,{place},{date}"),
+        level => writeln!(made.text, "group,place,{level},{place},{date}"),
+    }
+}
+
 /// Adds a command that closes its phase.
 fn push_closing(made: &mut Made, dice: &mut Dice) -> Result<(), AllocError> {
     let shard = dice.roll(7);
-    match dice.roll(6) {
+    match dice.roll(8) {
         0 => writeln!(made.text, "shards"),
         1 => writeln!(made.text, "audit"),
         2 => writeln!(made.text, "tree,{shard}"),
         3 | 4 => writeln!(made.text, "settle"),
+        5 | 6 => push_group(made, dice),
         _ => writeln!(made.text, "barrier"),
     }
 }
@@ -136,8 +147,8 @@ fn push_end(made: &mut Made) -> Result<(), AllocError> {
     for server in 0..made.servers {
         writeln!(made.text, "query,{server},*,*")?;
     }
-    writeln!(made.text, "shards\naudit")?;
-    let more = 3 + u64::from(made.servers);
+    writeln!(made.text, "shards\naudit\ngroup,place,2,*,*")?;
+    let more = 4 + u64::from(made.servers);
     made.commands = made.commands.saturating_add(more);
     Ok(())
 }

@@ -1,5 +1,6 @@
 //! Scripts made by chance, each run often: every answer holds the rows that its server must know, only rows that had begun, and each
-//! once; behind a settle it holds all; and each page of all shards or of all rows tells of just the rows that had begun.
+//! once; behind a settle it holds all; each page of all shards or of all rows tells of just the rows that had begun, and each page of
+//! groups of those that match.
 use crate::chance::Dice;
 use crate::judge::{Found, judged};
 use crate::scripts::{Made, script};
@@ -59,7 +60,7 @@ fn run_many<R: Abort + Threads + Wait + Sync>(
         let made = script(alloc, dice)?;
         all = all.join(&run_often(rt, alloc, &made)?);
     }
-    assert!(rt; all.answers > 0 && all.pages > 0);
+    assert!(rt; all.answers > 0 && all.pages > 0 && all.groups > 0);
     assert!(rt; all.splits > 0 && all.moves > 0);
     Ok(())
 }

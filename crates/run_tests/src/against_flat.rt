@@ -1,4 +1,4 @@
-//! Scripts made by chance: behind a settle the word `step` prints what a plain list of rows answers.
+//! Scripts made by chance: behind a settle, and of groups anywhere, the word `step` prints what a plain list of rows answers.
 ghost use Rattle.std.specs.Prelude.{All};
 ghost use Rattle.dim_hierarchy.specs.Rows.{IsRowOf};
 ghost use Rattle.script_form.specs.Fits.{Fits};
@@ -6,10 +6,13 @@ ghost use Rattle.script_form.specs.declared.script.Command.TheVariants as comman
 
 use crate::chance::Dice;
 use crate::flat::FlatRows;
+use crate::groups::Asked;
 use crate::top::run_top;
-use answer_text::{Answer, Line, push_line};
-use dim_hierarchy::{FilterFault, Row};
+use answer_text::{Answer, Line, push_line, push_page};
+use dim_hierarchy::{ConceptId, Coord, FilterFault, NameFilter, Row};
 use library_runs::of_olap_top::Status;
+use measure_agg::Agg;
+use row_ledger::{GroupLine, GroupLines, GroupPage, Page};
 use script_form::{Command, NewRow, Question, Script, read_script};
 use std::alloc::{AllocError, Global};
 use std::fmt::Write;
@@ -19,10 +22,16 @@ use std::test::Fail;
 use std::thread::Threads;
 use volap_io::MemSink;
 
-/// How many concepts the levels of the first dimension have, and the one level of the second.
+/// How many concepts the levels of the first dimension have. One is beneath that whose number is its own number's remainder.
 const PLACES: [u64; 3] = [3, 9, 40];
 
-/// How many concepts the second dimension has.
+/// Those of the levels above the last.
+pub(crate) const ABOVE: [u32; 2] = [3, 9];
+
+/// How many concepts a level has at most.
+const MOST: u32 = 40;
+
+/// How many concepts the second dimension has, on one level.
 const DAYS: u64 = 6;
 
 /// Adds the concepts of a level of the first dimension, each beneath one of the level above.
@@ -70,7 +79,7 @@ pub(crate) fn push_insert(
     writeln!(text, "insert,{server},{measure},2x{place},{day}")
 }
 
-/// Adds the field of a query for the first dimension: a star, or up to three concepts of any levels.
+/// Adds the field of a filter for the first dimension: a star, or up to three concepts of any levels.
 fn push_places(text: &mut String, dice: &mut Dice) -> Result<(), AllocError> {
     if dice.hits(3) {
         return write!(text, "*");
@@ -84,11 +93,9 @@ fn push_places(text: &mut String, dice: &mut Dice) -> Result<(), AllocError> {
     Ok(())
 }
 
-/// Adds a query behind a settle.
-fn push_query(text: &mut String, dice: &mut Dice) -> Result<(), AllocError> {
-    let server = dice.number(2);
+/// Adds a filter to a record, and ends it.
+fn push_filter(text: &mut String, dice: &mut Dice) -> Result<(), AllocError> {
     let day = dice.number(DAYS + 1);
-    write!(text, "settle\nquery,{server},")?;
     push_places(text, dice)?;
     if day == DAYS {
         writeln!(text, ",*")
@@ -97,11 +104,28 @@ fn push_query(text: &mut String, dice: &mut Dice) -> Result<(), AllocError> {
     }
 }
 
-/// Adds a command with a number: of 16 about one is a query, and now and then there is a barrier.
+/// Adds a query behind a settle.
+fn push_query(text: &mut String, dice: &mut Dice) -> Result<(), AllocError> {
+    let server = dice.number(2);
+    write!(text, "settle\nquery,{server},")?;
+    push_filter(text, dice)
+}
+
+/// Adds a group by a level of one of the dimensions.
+pub(crate) fn push_group(text: &mut String, dice: &mut Dice) -> Result<(), AllocError> {
+    match dice.number(4) {
+        0 => write!(text, "group,day,1,")?,
+        level => write!(text, "group,place,{level},")?,
+    }
+    push_filter(text, dice)
+}
+
+/// Adds a command with a number: of 32 about two are queries and two are groups, and now and then there is a barrier.
 fn push_command(text: &mut String, dice: &mut Dice, number: u64) -> Result<(), AllocError> {
     match dice.number(32) {
         0 | 1 => push_query(text, dice),
         2 => writeln!(text, "barrier"),
+        3 | 4 => push_group(text, dice),
         _ => push_insert(text, dice, number),
     }
 }
@@ -153,7 +177,7 @@ fn query(
     }
 }
 
-/// What is answered to a command.
+/// What is answered to an insert, a query or a called command without names.
 fn answer(
     alloc: Global,
     flat: &mut FlatRows,
@@ -168,8 +192,122 @@ fn answer(
     match next {
         Command::Insert(new) => insert(flat, script, no, new),
         Command::Query(question) => query(alloc, flat, script, question),
-        Command::Control(_) => Ok(Answer::Ok),
+        Command::Control(_) | Command::Group { .. } => Ok(Answer::Ok),
     }
+}
+
+/// Adds a row, laid out as far as its concepts, since the checker plans by the types that it meets.
+fn push_row(rows: &mut Vec<Row>, row: &Row) -> Result<(), AllocError> {
+    let at = Coord { at: row.at.at };
+    rows.push(Row { at, ..*row })?;
+    Ok(())
+}
+
+/// The rows that are asked for.
+fn matching(alloc: Global, rows: &[Row], asked: &Asked) -> Result<Vec<Row>, AllocError> {
+    let mut found = Vec::new(alloc);
+    for row in rows {
+        if asked.matches(row) {
+            push_row(&mut found, row)?;
+        }
+    }
+    Ok(found)
+}
+
+/// The rows under a concept.
+fn under(
+    alloc: Global,
+    rows: &[Row],
+    asked: &Asked,
+    id: ConceptId,
+) -> Result<Vec<Row>, AllocError> {
+    let mut found = Vec::new(alloc);
+    for row in rows {
+        if asked.concept_of(row) == id {
+            push_row(&mut found, row)?;
+        }
+    }
+    Ok(found)
+}
+
+/// The page of a group: for each concept of its level it goes over the rows.
+fn page(alloc: Global, rows: &[Row], asked: &Asked) -> Result<Page, AllocError> {
+    let rows = matching(alloc, rows, asked)?;
+    let mut lines = Vec::new(alloc);
+    for number in 0..MOST {
+        let id = ConceptId(u32::from(asked.level) << 28 | number);
+        let rows = under(alloc, &rows, asked, id)?;
+        if !rows.is_empty() {
+            let agg = Agg::of_rows(&rows);
+            lines.push(GroupLine { id, agg })?;
+        }
+    }
+    Ok(Page::Group(GroupPage {
+        lines: GroupLines::from_vec(lines),
+        all: Agg::of_rows(&rows),
+    }))
+}
+
+/// Adds what a group tells.
+fn push_groups(
+    alloc: Global,
+    text: &mut String,
+    flat: &FlatRows,
+    script: &Script,
+    number: u64,
+    dim: u8,
+    level: u8,
+    names: &NameFilter,
+) -> Result<(), Fail>
+    requires { Fits script.now (command.Group dim level names.now) }
+{
+    match script.hierarchy.filter(alloc, names) {
+        Ok(wanted) => {
+            let asked = Asked {
+                filter: &wanted,
+                dim,
+                level,
+                above: &ABOVE,
+            };
+            push_page(text, number, &page(alloc, flat.rows.as_slice(), &asked)?)?;
+            Ok(())
+        }
+        Err(FilterFault::Unknown { dim }) => {
+            let line = Line {
+                number,
+                word: "group",
+                answer: Answer::Unknown { dim },
+            };
+            push_line(text, &line)?;
+            Ok(())
+        }
+        Err(FilterFault::NoMemory) => Err(AllocError.into()),
+    }
+}
+
+/// Adds what is told of a command.
+fn push_told(
+    alloc: Global,
+    text: &mut String,
+    flat: &mut FlatRows,
+    script: &Script,
+    number: u64,
+    next: &Command,
+) -> Result<(), Fail>
+    requires fits { Fits script.now next.now }
+    requires rows { All (IsRowOf script.now.hierarchy) flat.old.rows }
+    ensures { All (IsRowOf script.now.hierarchy) flat.new.rows }
+{
+    if let Command::Group { dim, level, filter } = next {
+        return push_groups(alloc, text, flat, script, number, *dim, *level, filter);
+    }
+    let line = Line {
+        number,
+        word: next.word(),
+        answer: answer(alloc, flat, script, number, next)?,
+    };
+    push_line(text, &line)?;
+    Ok(())
 }
 
 /// The text of a script, command by command, over a plain list of rows.
@@ -179,13 +317,7 @@ fn plain(alloc: Global, script: &Script) -> Result<String, Fail>
     let mut flat = FlatRows::new(alloc);
     let mut text = String::new(alloc);
     for (i, next) in script.commands.as_slice().iter().enumerate() {
-        let number = i as u64 + 1;
-        let line = Line {
-            number,
-            word: next.word(),
-            answer: answer(alloc, &mut flat, script, number, next)?,
-        };
-        push_line(&mut text, &line)?;
+        push_told(alloc, &mut text, &mut flat, script, i as u64 + 1, next)?;
     }
     Ok(text)
 }

@@ -1,22 +1,25 @@
 //! What an answer must and may count, read off the events one by one. A row's measure is a power of two of its own,
 //! so that rows are the sum of their measures, and an answer's sum tells which it counted.
 
+use crate::groups::is_group;
 use describing_set::{DescSet, SharedListing};
 use dim_hierarchy::{ConceptId, Filter, Pick, Row};
 use measure_agg::Agg;
-use row_ledger::Event;
+use row_ledger::{Event, GroupPage, Page};
 
 /// How many concepts the first of the two levels has. One of the second level is under that whose number is its
 /// own number's remainder by this.
 pub(crate) const COUNTRIES: u32 = 2;
 
-/// What was found of a history's answers, and how much happened besides.
+/// What was found of a history's answers and groups, and how much happened besides.
 #[derive(Clone, Copy, Debug, PartialEq, Eq)]
 pub(crate) struct Tally {
     pub answers: u64,
+    /// How many groups were shown.
+    pub groups: u64,
     /// Of how many of them more rows might be counted than must be.
     pub loose: u64,
-    /// How many are out of their bounds.
+    /// How many of both are otherwise than they must be.
     pub wrong: u64,
     /// How many commands found no memory.
     pub starved: u64,
@@ -28,6 +31,7 @@ impl Tally {
     /// Of no answers.
     pub(crate) const NONE: Tally = Tally {
         answers: 0,
+        groups: 0,
         loose: 0,
         wrong: 0,
         starved: 0,
@@ -39,6 +43,7 @@ impl Tally {
     pub(crate) fn join(&self, other: &Tally) -> Tally {
         Tally {
             answers: self.answers.wrapping_add(other.answers),
+            groups: self.groups.wrapping_add(other.groups),
             loose: self.loose.wrapping_add(other.loose),
             wrong: self.wrong.wrapping_add(other.wrong),
             starved: self.starved.wrapping_add(other.starved),
@@ -196,7 +201,7 @@ fn matching(all: &[Event], place: usize, filter: &Filter) -> u64 {
 }
 
 /// Whether an aggregate is that of rows, each counted once.
-fn is_of(agg: &Agg, rows: u64) -> bool {
+pub(crate) fn is_of(agg: &Agg, rows: u64) -> bool {
     let measures = (0..63).map(|bit| 1u64 << bit);
     let mut least = None;
     let mut greatest = None;
@@ -233,12 +238,25 @@ fn judge(all: &[Event], place: usize, of: usize, agg: &Agg) -> Tally {
     }
 }
 
-/// What is found of all answers of a history, the oldest event first.
+/// What is found of the page of the group that was called at a place.
+fn judge_group(all: &[Event], of: u64, page: &GroupPage) -> Tally {
+    Tally {
+        groups: 1,
+        wrong: u64::from(!is_group(all, of, page, &[COUNTRIES])),
+        ..Tally::NONE
+    }
+}
+
+/// What is found of all answers and groups of a history, the oldest event first.
 pub(crate) fn judge_all(all: &[Event]) -> Tally {
     let mut found = Tally::NONE;
     for (place, event) in all.iter().enumerate() {
         let one = match event {
             Event::Answered { of, agg } => judge(all, place, *of as usize, agg),
+            Event::Shown {
+                of,
+                page: Page::Group(group),
+            } => judge_group(all, *of, group),
             Event::Failed { .. } | Event::Refused { .. } => Tally {
                 starved: 1,
                 ..Tally::NONE

@@ -1,8 +1,9 @@
 //! Scripts made by chance, run by chance: each answer holds the rows that its server must know, only rows
-//! that had begun, and each once; and each page of all shards or of all rows tells of just the rows that
-//! had begun, whatever was split and moved meanwhile.
-use crate::against_flat::{head, push_insert};
+//! that had begun, and each once; each page of all shards or of all rows tells of just the rows that had
+//! begun, and each page of groups of those that match, whatever was split and moved meanwhile.
+use crate::against_flat::{ABOVE, head, push_group, push_insert};
 use crate::chance::Dice;
+use crate::groups::is_group;
 use crate::top::run_top;
 use library_runs::of_olap_top::Status;
 use measure_agg::Agg;
@@ -71,11 +72,12 @@ fn lies_between(must: u64, answer: &Agg, may: u64) -> bool {
     least & sum == least && sum & most == sum && answer.count() == count
 }
 
-/// How many of these stand in a history: answers, pages, and splits and moves of shards.
+/// How many of these stand in a history: answers, pages, of them those of groups, and splits and moves of shards.
 #[derive(Clone, Copy)]
 struct Seen {
     answers: u64,
     pages: u64,
+    groups: u64,
     splits: u64,
     moves: u64,
 }
@@ -85,15 +87,24 @@ impl Seen {
     const NONE: Seen = Seen {
         answers: 0,
         pages: 0,
+        groups: 0,
         splits: 0,
         moves: 0,
     };
+
+    /// One more page.
+    fn see_page(&mut self, page: &Page) {
+        self.pages = self.pages.saturating_add(1);
+        if let Page::Group(_) = page {
+            self.groups = self.groups.saturating_add(1);
+        }
+    }
 
     /// One more of what this event is.
     fn see(&mut self, event: &Event) {
         match event {
             Event::Answered { .. } => self.answers = self.answers.saturating_add(1),
-            Event::Shown { .. } => self.pages = self.pages.saturating_add(1),
+            Event::Shown { page, .. } => self.see_page(page),
             Event::Split { .. } => self.splits = self.splits.saturating_add(1),
             Event::Moved { .. } => self.moves = self.moves.saturating_add(1),
             _ => {}
@@ -104,6 +115,7 @@ impl Seen {
     fn add(&mut self, more: &Seen) {
         self.answers = self.answers.saturating_add(more.answers);
         self.pages = self.pages.saturating_add(more.pages);
+        self.groups = self.groups.saturating_add(more.groups);
         self.splits = self.splits.saturating_add(more.splits);
         self.moves = self.moves.saturating_add(more.moves);
     }
@@ -125,24 +137,25 @@ fn is_audit_of(audit: &AuditLine, rows: u64) -> bool {
     lies_between(rows, &audit.agg, rows) && 0 < audit.shards
 }
 
-/// Whether a page tells of just these rows, each once.
-fn is_page_of(page: &Page, rows: u64) -> bool {
+/// Whether the page of the command that was called at a place tells of just these rows, each once.
+fn is_page_of(events: &[Event], of: u64, page: &Page, rows: u64) -> bool {
     match page {
         Page::Shards(shards) => rows_of(shards.as_slice()) == u64::from(rows.count_ones()),
         Page::Audit(audit) => is_audit_of(audit, rows),
+        Page::Group(group) => is_group(events, of, group, &ABOVE),
         Page::Tree(_) => true,
     }
 }
 
 /// Whether an event that answers or shows tells what it must and may, where the queries before it must
 /// hold these rows.
-fn is_in_bounds(known: &Known, must: &[u64], event: &Event) -> bool {
+fn is_in_bounds(known: &Known, events: &[Event], must: &[u64], event: &Event) -> bool {
     match event {
         Event::Answered { of, agg } => {
             let least = must.get(*of as usize).copied().unwrap_or(0);
             lies_between(least, agg, known.begun)
         }
-        Event::Shown { page, .. } => is_page_of(page, known.begun),
+        Event::Shown { of, page } => is_page_of(events, *of, page, known.begun),
         _ => true,
     }
 }
@@ -161,7 +174,7 @@ fn seen_in(alloc: Global, events: &[Event]) -> Result<Seen, Fail> {
         must.push(known.must(event))?;
         known.see(events, event);
         seen.see(event);
-        if !is_in_bounds(&known, must.as_slice(), event) {
+        if !is_in_bounds(&known, events, must.as_slice(), event) {
             return Err("out of bounds".into());
         }
     }
@@ -182,10 +195,11 @@ fn push_work(text: &mut String, dice: &mut Dice) -> Result<(), AllocError> {
 
 /// Adds a command that closes its phase.
 fn push_closing(text: &mut String, dice: &mut Dice) -> Result<(), AllocError> {
-    match dice.number(5) {
+    match dice.number(7) {
         0 => writeln!(text, "shards"),
         1 => writeln!(text, "audit"),
         2 => writeln!(text, "settle"),
+        3 | 4 => push_group(text, dice),
         _ => writeln!(text, "barrier"),
     }
 }
@@ -211,6 +225,7 @@ fn script(alloc: Global, dice: &mut Dice, count: u64) -> Result<String, AllocErr
         push_command(&mut text, dice, number)?;
     }
     write!(text, "settle\nquery,1,*,*\nshards\naudit\n")?;
+    push_group(&mut text, dice)?;
     Ok(text)
 }
 
@@ -232,7 +247,7 @@ fn run<R: Abort + Threads + Wait + Sync>(
 }
 
 /// Runs a thousand scripts, each by a seed. In all of them together shards are split and moved, some
-/// hundred times each.
+/// hundred times each, and a thousand groups are shown.
 fn run_many<R: Abort + Threads + Wait + Sync>(
     rt: &R,
     alloc: Global,
@@ -247,6 +262,7 @@ fn run_many<R: Abort + Threads + Wait + Sync>(
         all.add(&run(rt, alloc, text.as_str().as_bytes(), seed)?);
     }
     assert!(rt; all.splits > 100 && all.moves > 100);
+    assert!(rt; all.groups >= 1000);
     Ok(())
 }
 

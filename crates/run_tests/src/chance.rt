@@ -4,13 +4,12 @@ ghost use Rattle.std.specs.Prelude.{◌<◌, ◌^◌};
 use crate::scripts::Line;
 use rand_core::utils::NextWord;
 use rand_pcg::Pcg32;
-use row_ledger::Call;
 use std::alloc::{AllocError, Global};
 
 /// The names of rows. Most rows have one of the first three.
 const TOWNS: [&str; 10] = ["t0", "t1", "t2", "t3", "t4", "t5", "t6", "t7", "t8", "t9"];
 
-/// What queries pick: everything, a country, one or two towns, or a name that is not known.
+/// What queries and groups pick: everything, a country, one or two towns, or a name that is not known.
 const PICKS: [&[&str]; 24] = [
     &[],
     &[],
@@ -98,9 +97,9 @@ impl Dice {
     /// A split or a move of a shard, which may not stand, or some of both.
     fn change(&mut self) -> Line {
         match self.roll(3) {
-            0 => Line::Call(Call::Split(self.roll(8))),
-            1 => Line::Call(Call::Move(self.roll(8), self.server())),
-            _ => Line::Call(Call::Balance(3)),
+            0 => Line::Split(self.roll(8)),
+            1 => Line::Move(self.roll(8), self.server()),
+            _ => Line::Balance(3),
         }
     }
 
@@ -108,19 +107,26 @@ impl Dice {
     fn line(&mut self, measure: i64) -> Line {
         match self.roll(19) {
             16 | 17 | 18 => self.change(),
-            0 => Line::Call(Call::Sync(self.server())),
+            0 => Line::Sync(self.server()),
             1 => Line::Insert(0, 5, "nowhere"),
             2 | 3 | 4 | 5 => self.query(),
             _ => self.insert(measure),
         }
     }
 
+    /// A group by a country or by a town.
+    fn group(&mut self) -> Line {
+        let level = if self.roll(2) == 0 { 1 } else { 2 };
+        Line::Group(level, PICKS[self.roll(24) as usize])
+    }
+
     /// The command that closes a phase.
     fn end(&mut self) -> Line {
-        match self.roll(4) {
-            0 => Line::Call(Call::Settle),
-            1 => Line::Call(Call::Tree(self.roll(3))),
-            _ => Line::Call(Call::Barrier),
+        match self.roll(6) {
+            0 => Line::Settle,
+            1 => Line::Tree(self.roll(3)),
+            2 | 3 => self.group(),
+            _ => Line::Barrier,
         }
     }
 }

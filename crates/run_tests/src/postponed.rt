@@ -5,7 +5,6 @@ use crate::shard_stories::{
 };
 use crate::stories::{ASK, BEFORE, BEHIND, Story, tell};
 use library_runs::of_volap_cell::Kind;
-use row_ledger::Call;
 use std::test::Fail;
 
 /// What the administrator does until it begins to collect.
@@ -26,12 +25,12 @@ const STORIES: [Story; 3] = [
         before: &[Line::Insert(0, 5, "berlin"), Line::Insert(0, 7, "munich")],
         times: 1,
         phase: &[
-            Line::Call(Call::Split(0)),
+            Line::Split(0),
             Line::Insert(0, 9, "berlin"),
             Line::Query(1, &[]),
-            Line::Call(Call::Split(0)),
+            Line::Split(0),
             Line::Query(1, &[]),
-            Line::Call(Call::Shards),
+            Line::Shards,
         ],
         moves: &[
             (3, BEGIN),
@@ -57,15 +56,15 @@ const STORIES: [Story; 3] = [
         before: TOWNS,
         times: 8,
         phase: &[
-            Line::Call(Call::Split(0)),
-            Line::Call(Call::Split(0)),
+            Line::Split(0),
+            Line::Split(0),
             Line::Insert(0, 2, "munich"),
-            Line::Call(Call::Move(0, 1)),
+            Line::Move(0, 1),
             Line::Query(1, &["berlin", "munich"]),
             Line::Insert(0, 4, "munich"),
-            Line::Call(Call::Move(0, 1)),
+            Line::Move(0, 1),
             Line::Query(1, &["berlin", "munich"]),
-            Line::Call(Call::Shards),
+            Line::Shards,
         ],
         moves: &[
             (3, BEGIN),
@@ -101,12 +100,12 @@ const STORIES: [Story; 3] = [
         times: 64,
         phase: &[
             Line::Insert(0, 2, "paris"),
-            Line::Call(Call::Balance(4)),
+            Line::Balance(4),
             Line::Insert(0, 4, "munich"),
-            Line::Call(Call::Balance(4)),
+            Line::Balance(4),
             Line::Query(0, &[]),
-            Line::Call(Call::Balance(4)),
-            Line::Call(Call::Shards),
+            Line::Balance(4),
+            Line::Shards,
         ],
         moves: &[
             (0, BEFORE),

@@ -11,13 +11,22 @@ use script_form::{Command, Commands, NewRow, Question, Script, read_script};
 use std::alloc::{AllocError, Global};
 
 /// A line of a script over one dimension.
-#[derive(Clone, Drop)]
+#[derive(Clone, Copy)]
 pub(crate) enum Line {
     /// A row that comes through a server: its measure and its name.
     Insert(u8, i64, &'static str),
     /// What a server is asked for: rows under one of these names, or all where there are none.
     Query(u8, &'static [&'static str]),
-    Call(Call),
+    /// Such rows, by the concept of a level that they are under.
+    Group(u8, &'static [&'static str]),
+    Sync(u8),
+    Split(u32),
+    Move(u32, u8),
+    Balance(u8),
+    Barrier,
+    Settle,
+    Shards,
+    Tree(u32),
 }
 
 /// The names that are picked, or all where there are none.
@@ -44,11 +53,27 @@ fn insert(alloc: Global, server: u8, measures: i64, name: &str) -> Result<Comman
     }))
 }
 
-/// A query for what is picked.
-fn query(alloc: Global, server: u8, picked: &[&str]) -> Result<Command, AllocError> {
+/// The filter of what is picked.
+fn filter(alloc: Global, picked: &[&str]) -> Result<NameFilter, AllocError> {
     let mut filter = NameFilter::new(alloc);
     filter.push(pick(alloc, picked)?)?;
+    Ok(filter)
+}
+
+/// A query for what is picked.
+fn query(alloc: Global, server: u8, picked: &[&str]) -> Result<Command, AllocError> {
+    let filter = filter(alloc, picked)?;
     Ok(Command::Query(Question { server, filter }))
+}
+
+/// A group of what is picked by a level.
+fn group(alloc: Global, level: u8, picked: &[&str]) -> Result<Command, AllocError> {
+    let filter = filter(alloc, picked)?;
+    Ok(Command::Group {
+        dim: 0,
+        level,
+        filter,
+    })
 }
 
 /// The command of a line.
@@ -56,7 +81,15 @@ fn command(alloc: Global, line: &Line) -> Result<Command, AllocError> {
     match line {
         Line::Insert(server, measures, name) => insert(alloc, *server, *measures, name),
         Line::Query(server, picked) => query(alloc, *server, picked),
-        Line::Call(call) => Ok(Command::Control(call.clone()?)),
+        Line::Group(level, picked) => group(alloc, *level, picked),
+        Line::Sync(server) => Ok(Command::Control(Call::Sync(*server))),
+        Line::Split(shard) => Ok(Command::Control(Call::Split(*shard))),
+        Line::Move(shard, worker) => Ok(Command::Control(Call::Move(*shard, *worker))),
+        Line::Balance(most) => Ok(Command::Control(Call::Balance(*most))),
+        Line::Barrier => Ok(Command::Control(Call::Barrier)),
+        Line::Settle => Ok(Command::Control(Call::Settle)),
+        Line::Shards => Ok(Command::Control(Call::Shards)),
+        Line::Tree(shard) => Ok(Command::Control(Call::Tree(*shard))),
     }
 }
 
@@ -82,7 +115,7 @@ fn are_picks(picks: &[NamePick]) -> bool
     true
 }
 
-/// Whether this call may run: a pull is for a server that is there.
+/// Whether this call may run: a pull is for a server that is there. A group is no such command.
 fn may_call(h: &Hierarchy, with: &Use, call: &Call) -> bool
     ensures { result ≡ true → MayRun h.now with.now (script_is.Control call.now) }
 {
@@ -90,6 +123,7 @@ fn may_call(h: &Hierarchy, with: &Use, call: &Call) -> bool
         Call::Sync(server) => *server < with.servers,
         Call::Split(_) | Call::Move(_, _) | Call::Balance(_) => true,
         Call::Barrier | Call::Settle | Call::Shards | Call::Tree(_) | Call::Audit => true,
+        Call::Group { .. } => false,
     }
 }
 
@@ -107,6 +141,12 @@ fn may_run(h: &Hierarchy, with: &Use, command: &Command) -> bool
                 && are_picks(question.filter.as_slice())
         }
         Command::Control(call) => may_call(h, with, call),
+        Command::Group { dim, level, filter } => {
+            usize::from(*dim) < dims
+                && *level <= h.levels(*dim)
+                && filter.len() == dims
+                && are_picks(filter.as_slice())
+        }
     }
 }
 

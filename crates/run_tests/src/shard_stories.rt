@@ -2,7 +2,6 @@
 use crate::scripts::Line;
 use crate::stories::{ASK, BEFORE, BEHIND, LOOK, PULL, Story, tell};
 use library_runs::of_volap_cell::Kind;
-use row_ledger::Call;
 use std::test::Fail;
 
 /// Two servers and one worker. The sessions are the actors 0 and 1, the administrator is 3, and the hand 4.
@@ -102,10 +101,10 @@ const STORIES: [Story; 5] = [
         phase: &[
             Line::Insert(0, 2, "berlin"),
             Line::Query(1, &["munich"]),
-            Line::Call(Call::Move(0, 1)),
+            Line::Move(0, 1),
             Line::Insert(0, 4, "munich"),
             Line::Query(1, &["munich"]),
-            Line::Call(Call::Shards),
+            Line::Shards,
         ],
         moves: &[
             (1, LOOK),
@@ -146,11 +145,11 @@ const STORIES: [Story; 5] = [
         times: 16,
         phase: &[
             Line::Query(1, &["hamburg"]),
-            Line::Call(Call::Split(0)),
+            Line::Split(0),
             Line::Insert(0, 4, "hamburg"),
             Line::Query(1, &["hamburg"]),
             Line::Query(1, &["munich"]),
-            Line::Call(Call::Shards),
+            Line::Shards,
         ],
         moves: &[
             (1, LOOK),
@@ -181,15 +180,15 @@ const STORIES: [Story; 5] = [
         before: TOWNS,
         times: 8,
         phase: &[
-            Line::Call(Call::Split(0)),
+            Line::Split(0),
             Line::Insert(0, 2, "munich"),
             Line::Query(1, &["berlin", "munich"]),
-            Line::Call(Call::Move(3, 1)),
+            Line::Move(3, 1),
             Line::Insert(0, 4, "munich"),
             Line::Query(1, &["berlin", "munich"]),
-            Line::Call(Call::Sync(1)),
+            Line::Sync(1),
             Line::Query(1, &["munich"]),
-            Line::Call(Call::Shards),
+            Line::Shards,
         ],
         moves: &[
             (3, &[Kind::Note, Kind::Freeze, Kind::Drained]),
@@ -236,16 +235,16 @@ const STORIES: [Story; 5] = [
         times: 8,
         phase: &[
             Line::Insert(0, 2, "munich"),
-            Line::Call(Call::Split(0)),
+            Line::Split(0),
             Line::Insert(0, 4, "hamburg"),
             Line::Query(0, &["munich"]),
-            Line::Call(Call::Sync(0)),
-            Line::Call(Call::Sync(1)),
+            Line::Sync(0),
+            Line::Sync(1),
             Line::Query(1, &["munich", "hamburg"]),
             Line::Query(0, &["munich", "hamburg"]),
             Line::Query(1, &[]),
             Line::Query(0, &[]),
-            Line::Call(Call::Shards),
+            Line::Shards,
         ],
         moves: &[
             (0, BEFORE),
@@ -278,11 +277,11 @@ const STORIES: [Story; 5] = [
         times: 8,
         phase: &[
             Line::Query(1, &[]),
-            Line::Call(Call::Move(0, 0)),
+            Line::Move(0, 0),
             Line::Insert(0, 2, "berlin"),
-            Line::Call(Call::Split(0)),
+            Line::Split(0),
             Line::Query(1, &[]),
-            Line::Call(Call::Shards),
+            Line::Shards,
         ],
         moves: &[
             (1, &[Kind::BeginQuery, Kind::TakePart]),

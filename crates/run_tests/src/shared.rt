@@ -2,7 +2,7 @@
 use crate::runs::{events, run_script};
 use crate::scripts::{Line, script};
 use library_runs::of_seeded_run::Schedule;
-use row_ledger::{Call, Event};
+use row_ledger::Event;
 use std::alloc::{AllocError, Global};
 use std::test::Fail;
 
@@ -28,7 +28,7 @@ fn behind(alloc: Global, lines: &[Line]) -> Result<(usize, usize), AllocError> {
     Ok(newest(events(&state)))
 }
 
-const SETTLE: Line = Line::Call(Call::Settle);
+const SETTLE: Line = Line::Settle;
 
 /// A row in one city, through the first server.
 const ROW: Line = Line::Insert(0, 1, "berlin");
@@ -47,7 +47,7 @@ fn pulls_share_a_listing_while_nothing_changes(rt: HostRuntime) -> Result<(), Fa
     let other = Line::Insert(0, 1, "munich");
     assert_eq!(rt; behind(alloc, &[ROW, SETTLE, other, SETTLE])?, (5, 2));
     // A shard that is moved is listed anew, with its worker.
-    let moved = Line::Call(Call::Move(0, 1));
+    let moved = Line::Move(0, 1);
     assert_eq!(rt; behind(alloc, &[SETTLE, moved, SETTLE])?, (5, 2));
     Ok(())
 }

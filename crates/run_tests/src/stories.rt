@@ -7,7 +7,6 @@ use crate::runs::{all_rest, answers, events, run_all};
 use crate::scripts::{Line, script};
 use library_runs::of_seeded_run::{Move, Schedule, run_by_hand};
 use library_runs::of_volap_cell::{Kind, State};
-use row_ledger::Call;
 use script_form::{Command, Script};
 use script_run::phase_len;
 use std::alloc::{AllocError, Global};
@@ -96,12 +95,12 @@ const STORIES: [Story; 6] = [
         times: 0,
         phase: &[
             Line::Insert(0, 1, "berlin"),
-            Line::Call(Call::Sync(0)),
-            Line::Call(Call::Sync(0)),
+            Line::Sync(0),
+            Line::Sync(0),
             Line::Query(0, &["berlin"]),
             Line::Query(1, &[]),
-            Line::Call(Call::Sync(0)),
-            Line::Call(Call::Sync(1)),
+            Line::Sync(0),
+            Line::Sync(1),
             Line::Query(1, &[]),
         ],
         moves: &[
@@ -123,11 +122,7 @@ const STORIES: [Story; 6] = [
         base: BASE,
         before: &[Line::Insert(0, 1, "berlin")],
         times: 1,
-        phase: &[
-            Line::Query(1, &["berlin"]),
-            Line::Call(Call::Sync(1)),
-            Line::Call(Call::Sync(1)),
-        ],
+        phase: &[Line::Query(1, &["berlin"]), Line::Sync(1), Line::Sync(1)],
         moves: &[
             (1, &[Kind::BeginQuery]),
             (2, PULL),
@@ -254,10 +249,10 @@ fn lines_before(alloc: Global, story: &Story) -> Result<Vec<Line>, AllocError> {
     let mut lines = Vec::new(alloc);
     for _ in 0..story.times {
         for line in story.before {
-            lines.push(line.clone()?)?;
+            lines.push(*line)?;
         }
     }
-    lines.push(Line::Call(Call::Settle))?;
+    lines.push(Line::Settle)?;
     Ok(lines)
 }
 

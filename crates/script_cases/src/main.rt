@@ -1,6 +1,6 @@
 //! The program that runs scripts, and compares how each ends and what it prints with what it must be. The
 //! scripts and their answers are data: the text on standard input, and the files that it names.
-//! Each of some 380 runs is made by `olap` in memory, by large pieces and, where nothing else is said and its
+//! Each of some 470 runs is made by `olap` in memory, by large pieces and, where nothing else is said and its
 //! text is not long, byte by byte too. A case says the words, the faults of source and sink, the status, and
 //! the whole text that must come, or several of which one must; its form stands at the head of `stdin`. Ten
 //! thousand splits, moves and balances are among them. It ends with the status 1 where a run differs.

@@ -1,22 +1,23 @@
 //! What is tested of `answer_text`.
 use crate::fixtures::text_of;
+use crate::words::{Word, call_of, command_of};
 use answer_text::laws::tellers_go_on;
 use answer_text::{Teller, phase, told};
 use describing_set::{DescSet, Part, Path};
 use dim_hierarchy::{ConceptId, Filter, Row};
 use measure_agg::Agg;
 use row_ledger::{
-    AuditLine, Call, Decline, Event, History, How, NodeLine, NodeList, Page, ShardLine, ShardList,
-    TreePage, Use,
+    AuditLine, Call, Decline, Event, GroupLine, GroupLines, GroupPage, History, How, NodeLine,
+    NodeList, Page, ShardLine, ShardList, TreePage, Use,
 };
-use script_form::{Command, Commands, read_script};
+use script_form::{Commands, read_script};
 use std::alloc::{AllocError, Global};
 use std::process::Abort;
 use std::test::Fail;
 
 /// What happens in a small history, for tables. Sessions 0, 1 and 2 are those of the servers, 3 is
 /// the pulling one and 4 the controlling one.
-#[derive(Drop)]
+#[derive(Clone, Copy)]
 enum Step {
     Begun(u16),
     Asked(u16),
@@ -27,7 +28,7 @@ enum Step {
     Failed(u64),
     Refused(u16),
     Pulled(u8),
-    Called(Call),
+    Called(Word),
     Split(u64, u32, u32),
     Ended(u64, How),
     Shows(u64, Shown),
@@ -39,6 +40,7 @@ enum Shown {
     Tree,
     Shards,
     Audit,
+    Groups,
 }
 
 /// The aggregate of one measure, or of none.
@@ -132,12 +134,30 @@ fn audit_page() -> Page {
     })
 }
 
+/// The aggregate of one row under a concept of the second level.
+fn group(number: u32, measure: i64) -> GroupLine {
+    GroupLine {
+        id: ConceptId(0x2000_0000 | number),
+        agg: Agg::one(measure),
+    }
+}
+
+/// Two concepts with a row each.
+fn groups_page(alloc: Global) -> Result<Page, AllocError> {
+    let lines = vec![in alloc; group(0, -3), group(7, 8)]?;
+    Ok(Page::Group(GroupPage {
+        lines: GroupLines::from_vec(lines),
+        all: two_rows(),
+    }))
+}
+
 /// The page that is shown.
 fn page_of(alloc: Global, shown: Shown) -> Result<Page, AllocError> {
     match shown {
         Shown::Tree => tree_page(alloc),
         Shown::Shards => shards_page(alloc),
         Shown::Audit => Ok(audit_page()),
+        Shown::Groups => groups_page(alloc),
     }
 }
 
@@ -173,9 +193,9 @@ fn event(alloc: Global, step: &Step) -> Result<Event, AllocError> {
             session: 3,
             call: Call::Sync(server),
         },
-        Step::Called(ref call) => Event::Called {
+        Step::Called(word) => Event::Called {
             session: 4,
-            call: call.clone()?,
+            call: call_of(alloc, word),
         },
         Step::Split(of, left, right) => Event::Split {
             of,
@@ -285,72 +305,72 @@ const WITH: Use = Use {
     cells: 64,
 };
 
-/// The commands that make these calls.
-fn commands_of(alloc: Global, calls: &[Call]) -> Result<Commands, AllocError> {
+/// The commands of these words.
+fn commands_of(alloc: Global, words: &[Word]) -> Result<Commands, AllocError> {
     let mut commands = Commands::new(alloc);
-    for call in calls {
-        commands.push(Command::Control(call.clone()?))?;
+    for word in words {
+        commands.push(command_of(alloc, *word))?;
     }
     Ok(commands)
 }
 
 /// Calls, what happens, and what is told.
-type CallCase = (&'static [Call], &'static [Step], &'static [u8]);
+type CallCase = (&'static [Word], &'static [Step], &'static [u8]);
 
 /// Compares what is told of calls.
 fn expect_calls<R: Abort>(rt: &R, alloc: Global, case: &CallCase) -> Result<(), AllocError> {
-    let (calls, steps, text) = case;
-    let commands = commands_of(alloc, calls)?;
+    let (words, steps, text) = case;
+    let commands = commands_of(alloc, words)?;
     expect_told(rt, alloc, &WITH, &commands, steps, text)
 }
 
 #[test]
 fn lines_of_calls(rt: HostRuntime) -> Result<(), Fail> {
-    const CASES: [CallCase; 5] = [
+    const CASES: [CallCase; 6] = [
         (
-            &[Call::Sync(2), Call::Barrier, Call::Settle],
+            &[Word::Sync(2), Word::Barrier, Word::Settle],
             &[
                 Step::Pulled(2),
                 Step::Ended(0, How::Fine),
-                Step::Called(Call::Barrier),
+                Step::Called(Word::Barrier),
                 Step::Ended(2, How::Fine),
-                Step::Called(Call::Settle),
+                Step::Called(Word::Settle),
                 Step::Ended(4, How::NoMemory),
             ],
             b"1 sync ok\n2 barrier ok\n3 settle nomem\n",
         ),
         (
-            &[Call::Split(0), Call::Split(1), Call::Move(2, 0)],
+            &[Word::Split(0), Word::Split(1), Word::Move(2, 0)],
             &[
-                Step::Called(Call::Split(0)),
+                Step::Called(Word::Split(0)),
                 Step::Split(0, 1, 2),
                 Step::Ended(0, How::Fine),
-                Step::Called(Call::Split(1)),
+                Step::Called(Word::Split(1)),
                 Step::Ended(3, How::Declined(Decline::OnePlace)),
-                Step::Called(Call::Move(2, 0)),
+                Step::Called(Word::Move(2, 0)),
                 Step::Ended(5, How::Fine),
             ],
             b"1 split ok 1 2\n2 split declined oneplace\n3 move ok\n",
         ),
         (
-            &[Call::Split(9), Call::Split(0), Call::Move(0, 1)],
+            &[Word::Split(9), Word::Split(0), Word::Move(0, 1)],
             &[
-                Step::Called(Call::Split(9)),
+                Step::Called(Word::Split(9)),
                 Step::Ended(0, How::NoMemory),
-                Step::Called(Call::Split(0)),
+                Step::Called(Word::Split(0)),
                 Step::Ended(2, How::Postponed),
                 Step::Refused(4),
             ],
             b"1 split postponed\n2 split postponed\n3 move postponed\n",
         ),
         (
-            &[Call::Move(0, 7), Call::Split(0), Call::Balance(4)],
+            &[Word::Move(0, 7), Word::Split(0), Word::Balance(4)],
             &[
-                Step::Called(Call::Move(0, 7)),
+                Step::Called(Word::Move(0, 7)),
                 Step::Ended(0, How::Declined(Decline::Unknown)),
-                Step::Called(Call::Split(0)),
+                Step::Called(Word::Split(0)),
                 Step::Ended(2, How::Declined(Decline::NoCell { need: 100, free: 3 })),
-                Step::Called(Call::Balance(4)),
+                Step::Called(Word::Balance(4)),
                 Step::Split(4, 1, 2),
                 Step::Ended(
                     4,
@@ -363,17 +383,27 @@ fn lines_of_calls(rt: HostRuntime) -> Result<(), Fail> {
             b"1 move declined unknown\n2 split declined nocell 100 3\n3 balance 1 3\n",
         ),
         (
-            &[Call::Balance(1), Call::Shards, Call::Tree(5), Call::Audit],
+            &[Word::Balance(1), Word::Shards, Word::Tree(5), Word::Audit],
             &[
                 Step::Refused(4),
-                Step::Called(Call::Shards),
+                Step::Called(Word::Shards),
                 Step::Ended(1, How::NoMemory),
-                Step::Called(Call::Tree(5)),
+                Step::Called(Word::Tree(5)),
                 Step::Ended(3, How::Declined(Decline::Unknown)),
-                Step::Called(Call::Audit),
+                Step::Called(Word::Audit),
                 Step::Ended(5, How::NoMemory),
             ],
             b"1 balance nomem\n2 shards nomem\n3 tree declined unknown\n4 audit nomem\n",
+        ),
+        (
+            &[Word::Group(1), Word::Group(2), Word::Group(1)],
+            &[
+                Step::Refused(4),
+                Step::Unknown(4, 3),
+                Step::Called(Word::Group(1)),
+                Step::Ended(2, How::NoMemory),
+            ],
+            b"1 group nomem\n2 group unknown 3\n3 group nomem\n",
         ),
     ];
     for case in &CASES {
@@ -399,20 +429,29 @@ fn expect_phases<R: Abort>(
 
 #[test]
 fn pages_are_told_phase_by_phase(rt: HostRuntime) -> Result<(), Fail> {
-    const CALLS: [Call; 4] = [Call::Tree(0), Call::Shards, Call::Audit, Call::Audit];
-    const STEPS: [Step; 10] = [
-        Step::Called(Call::Tree(0)),
+    const WORDS: [Word; 5] = [
+        Word::Tree(0),
+        Word::Shards,
+        Word::Audit,
+        Word::Group(2),
+        Word::Audit,
+    ];
+    const STEPS: [Step; 13] = [
+        Step::Called(Word::Tree(0)),
         Step::Shows(0, Shown::Tree),
         Step::Ended(0, How::Fine),
-        Step::Called(Call::Shards),
+        Step::Called(Word::Shards),
         Step::Shows(3, Shown::Shards),
         Step::Ended(3, How::Fine),
-        Step::Called(Call::Audit),
+        Step::Called(Word::Audit),
         Step::Shows(6, Shown::Audit),
         Step::Ended(6, How::Fine),
-        Step::Called(Call::Audit),
+        Step::Called(Word::Group(2)),
+        Step::Shows(9, Shown::Groups),
+        Step::Ended(9, How::Fine),
+        Step::Called(Word::Audit),
     ];
-    const CASES: [(u64, &[u8]); 5] = [
+    const CASES: [(u64, &[u8]); 6] = [
         (
             0,
             b"1 tree 0 height 2 rows 2 queued 4\n1 node 0 dir 1 1 2 5 -3 8 1:0+2/0:0\n1 node 1 leaf 2 2 2 5 -3 8 2:0+7/1:11\n",
@@ -422,11 +461,15 @@ fn pages_are_told_phase_by_phase(rt: HostRuntime) -> Result<(), Fail> {
             b"2 shard 1 worker 1 rows 2 queued 3 box 2:0+7/1:11\n2 shard 2 worker 1 rows 0 queued 3 box 2:/1:\n",
         ),
         (2, b"3 audit 2 5 -3 8 shards 2\n"),
-        (3, b""),
+        (
+            3,
+            b"4 group 2:0 1 -3 -3 -3\n4 group 2:7 1 8 8 8\n4 group all 2 5 -3 8\n",
+        ),
+        (4, b""),
         (u64::MAX, b""),
     ];
     let alloc = rt.alloc();
-    let commands = commands_of(alloc, &CALLS)?;
+    let commands = commands_of(alloc, &WORDS)?;
     let history = history_of(alloc, &STEPS)?;
     expect_phases(&rt, alloc, &commands, &history, &CASES)?;
     Ok(())
@@ -445,9 +488,9 @@ fn first_phase(
 
 #[test]
 fn a_teller_tells_a_phase(rt: HostRuntime) -> Result<(), Fail> {
-    const STEPS: [Step; 2] = [Step::Called(Call::Barrier), Step::Ended(0, How::Fine)];
+    const STEPS: [Step; 2] = [Step::Called(Word::Barrier), Step::Ended(0, How::Fine)];
     let alloc = rt.alloc();
-    let commands = commands_of(alloc, &[Call::Barrier])?;
+    let commands = commands_of(alloc, &[Word::Barrier])?;
     let history = history_of(alloc, &STEPS)?;
     let said = first_phase(alloc, &commands, &history)?;
     assert_eq!(rt; said.as_slice(), b"1 barrier ok\n".as_slice());

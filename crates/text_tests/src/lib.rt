@@ -20,3 +20,5 @@ mod ledgers;
 mod scripts;
 #[cfg(test)]
 mod streams;
+#[cfg(test)]
+mod words;

@@ -1,8 +1,9 @@
 //! What is tested of `script_form`.
 use crate::fixtures::text_of;
+use crate::words::{Word, word_in};
 use dim_hierarchy::NamePick;
-use row_ledger::{Call, Use};
-use script_form::{Command, NewRow, Question, Script, ScriptFault, read_script, script_laws};
+use row_ledger::Use;
+use script_form::{Command, NewRow, Script, ScriptFault, read_script, script_laws};
 use std::alloc::{AllocError, Global};
 use std::process::Abort;
 use std::test::Fail;
@@ -23,7 +24,7 @@ fn on_base(alloc: Global, lines: &[u8]) -> Result<Result<usize, ScriptFault>, Al
 
 #[test]
 fn good_texts(rt: HostRuntime) -> Result<(), Fail> {
-    const CASES: [(&[u8], usize); 13] = [
+    const CASES: [(&[u8], usize); 14] = [
         (b"", 0),
         (b"insert,0,5,\"berlin\"\r\nquery,1,de|berlin\r\nbarrier", 3),
         (
@@ -54,6 +55,10 @@ fn good_texts(rt: HostRuntime) -> Result<(), Fail> {
         (
             b"tree,0\ninsert,0,5,berlin\ntree,00000000000000000001\nbarrier",
             4,
+        ),
+        (
+            b"group,geo,1,*\ngroup,geo,00000000000000000002,de|nowhere\n\"group\",\"geo\",\"2\",berlin",
+            3,
         ),
     ];
     for (lines, commands) in &CASES {
@@ -86,9 +91,9 @@ fn expect_insert<R: Abort>(rt: &R, row: &NewRow) {
     assert_eq!(rt; row.names.get(0), b"berlin".as_slice());
 }
 
-/// Compares a query.
-fn expect_query<R: Abort>(rt: &R, question: &Question) {
-    let [NamePick::Any(names), NamePick::All] = question.filter.as_slice() else {
+/// Compares the filter of a query or of a group.
+fn expect_filter<R: Abort>(rt: &R, filter: &[NamePick]) {
+    let [NamePick::Any(names), NamePick::All] = filter else {
         panic!(rt; "another filter");
     };
     let names = names.as_slice();
@@ -96,49 +101,57 @@ fn expect_query<R: Abort>(rt: &R, question: &Question) {
     assert_eq!(rt; names[1].as_slice(), b"fr".as_slice());
 }
 
-/// The calls of a script, behind its insert and its query.
-const CALLS: [Call; 9] = [
-    Call::Tree(4294967295),
-    Call::Sync(1),
-    Call::Barrier,
-    Call::Settle,
-    Call::Split(7),
-    Call::Move(8, 9),
-    Call::Balance(16),
-    Call::Shards,
-    Call::Audit,
-];
-
-/// The call of a command that makes one.
-fn call_of(command: &Command) -> Option<&Call> {
-    match command {
-        Command::Control(call) => Some(call),
-        _ => None,
-    }
+/// Compares a group.
+fn expect_group<R: Abort>(rt: &R, command: &Command) {
+    let Command::Group { dim, level, filter } = command else {
+        panic!(rt; "another command");
+    };
+    assert_eq!(rt; (*dim, *level), (1, 1));
+    expect_filter(rt, filter.as_slice());
 }
+
+/// The calls of a script, behind its insert, its query and its group.
+const CALLS: [Word; 9] = [
+    Word::Tree(4294967295),
+    Word::Sync(1),
+    Word::Barrier,
+    Word::Settle,
+    Word::Split(7),
+    Word::Move(8, 9),
+    Word::Balance(16),
+    Word::Shards,
+    Word::Audit,
+];
 
 /// Compares calls.
 fn expect_calls<R: Abort>(rt: &R, commands: &[Command]) {
     assert_eq!(rt; commands.len(), CALLS.len());
     for (i, command) in commands.iter().enumerate() {
-        assert_eq!(rt; call_of(command), CALLS.get(i));
+        assert_eq!(rt; word_in(command), CALLS.get(i).copied());
     }
 }
 
 /// Compares the commands of a script.
 fn expect_commands<R: Abort>(rt: &R, commands: &[Command]) {
-    let [Command::Insert(row), Command::Query(question), calls @ ..] = commands else {
+    let [
+        Command::Insert(row),
+        Command::Query(question),
+        group,
+        calls @ ..,
+    ] = commands
+    else {
         panic!(rt; "other commands");
     };
     expect_insert(rt, row);
-    expect_query(rt, question);
+    expect_filter(rt, question.filter.as_slice());
+    expect_group(rt, group);
     expect_calls(rt, calls);
 }
 
 #[test]
 fn what_a_script_holds(rt: HostRuntime) -> Result<(), Fail> {
     const TEXT: &[u8] =
-        b"volap,1\nuse,3,16,8,64\ndim,geo,2\nconcept,geo,de,*\ndim,day,1\nconcept,day,mon,*\ninsert,2,-5,berlin,mon\nquery,0,de|fr,*\ntree,4294967295\nsync,1\nbarrier\nsettle\nsplit,7\nmove,8,9\nbalance,16\nshards\naudit\n";
+        b"volap,1\nuse,3,16,8,64\ndim,geo,2\nconcept,geo,de,*\ndim,day,1\nconcept,day,mon,*\ninsert,2,-5,berlin,mon\nquery,0,de|fr,*\ngroup,day,1,de|fr,*\ntree,4294967295\nsync,1\nbarrier\nsettle\nsplit,7\nmove,8,9\nbalance,16\nshards\naudit\n";
     let script = read_script(rt.alloc(), TEXT)?;
     script_laws();
     expect_head(&rt, &script);
