@@ -14,13 +14,14 @@ import sys
 MOST_DIMENSIONS, MOST_LEVELS = 8, 8
 NAME_BYTES, SCRIPT_BYTES = 64, 1 << 26
 LEAST_MEASURE, GREATEST_MEASURE = -(1 << 63), (1 << 63) - 1
-# How many fields a record of a command has, but for the names of an insert and the filters of a query.
+# How many fields a record of a command has, but for the names of an insert and the filters of a query or a group.
 FIELDS = {
     "insert": 3, "query": 2, "split": 2, "move": 3, "balance": 2, "sync": 2, "barrier": 1, "settle": 1,
-    "shards": 1, "tree": 2, "audit": 1}
-# The commands of a server, and those that end their phase.
+    "shards": 1, "tree": 2, "audit": 1, "group": 3}
+# The commands of a server, those with a field for each dimension, and those that end their phase.
 SERVED = ("insert", "query")
-CLOSING = ("barrier", "settle", "shards", "tree", "audit")
+NAMED = SERVED + ("group",)
+CLOSING = ("barrier", "settle", "shards", "tree", "audit", "group")
 # A name of so many signs is looked for within longer ones.
 LEAST_PART = 3
 # So many names are looked at for the nearest ones, in all, which is some ten seconds' work.
@@ -91,7 +92,7 @@ class Command:
         return int(self.fields[1])
 
     def names(self):
-        """The names of an insert, or the filters of a query."""
+        """The names of an insert, or the filters of a query or a group."""
         return self.fields[FIELDS[self.word]:]
 
 
@@ -149,10 +150,13 @@ def add_record(script, record, line, fields):
             refuse("`%s` is no concept above the last level of `%s`" % (fields[3], dim.name))
         dim.add(fields[2], fields[3])
     elif word in FIELDS:
-        if len(fields) != FIELDS[word] + (len(script.dims) if word in SERVED else 0):
+        if len(fields) != FIELDS[word] + (len(script.dims) if word in NAMED else 0):
             refuse("%d fields are not those of `%s`" % (len(fields), word))
-        if not all(it.lstrip("-").isdigit() for it in fields[1:FIELDS[word]]):
+        if not all(it.lstrip("-").isdigit() for it in fields[2 if word == "group" else 1:FIELDS[word]]):
             refuse("a field of `%s` that is to be a number is none" % word)
+        dim = script.dim(fields[1]) if word == "group" else None
+        if word == "group" and not (dim and 1 <= int(fields[2]) <= dim.levels):
+            refuse("there is no dimension `%s` with a level %s" % (fields[1], fields[2]))
         script.commands.append(Command(len(script.commands) + 1, record, line, fields))
     else:
         refuse("`%s` begins no record here" % word)

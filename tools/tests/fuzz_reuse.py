@@ -4,7 +4,7 @@
 Usage: tools/tests/fuzz_reuse.py [SCRIPTS [FIRST [PROGRAM [OTHER]]]]
 
 Makes so many scripts (200) by the seeds from FIRST (0) on, of a few hundred to some thousand splits, moves, balances,
-inserts and queries. Each runs with few cells, and with as many as there may be, in order and by two seeds. As old
+inserts, queries and groups. Each runs with few cells, and with as many as there may be, in order and by two seeds. As old
 cells are used again, the texts are the same, unless a split or a move is declined for want of cells, or a row goes to
 a queue for it; a script in whose first text `nocell` stands is counted apart, up to there. With OTHER the large stock
 is that program's, in order alone. It runs the program that ./volap would, and builds it first where that is due, so
@@ -35,7 +35,7 @@ def made(seed):
     shards = workers
     for _ in range(commands):
         what = chance.choices(
-            ["split", "move", "balance", "insert", "query", "settle", "barrier"], [2, 12, 2, 1, 4, 0.3, 0.3])[0]
+            ["split", "move", "balance", "insert", "query", "group", "settle", "barrier"], [2, 12, 2, 1, 4, 0.5, 0.3, 0.3])[0]
         if what == "split":
             lines.append("split,%d" % chance.randrange(shards))
             shards += 2 * (chance.random() < 0.2)
@@ -47,6 +47,8 @@ def made(seed):
             insert()
         elif what == "query":
             lines.append("query,%d,%s" % (chance.randrange(servers), chance.choice(["*", "c0", "t0", "t1|c2"])))
+        elif what == "group":
+            lines.append("group,geo,%d,%s" % (chance.randint(1, 2), chance.choice(["*", "c0", "t0", "t1|c2"])))
         else:
             lines.append(what)
     lines += ["settle", "shards", "audit"] + ["query,%d,*" % it for it in range(servers)]

@@ -4,12 +4,13 @@
 Usage: tools/tests/fuzz_run.py [SCRIPTS [RUNS [FIRST [PROGRAM]]]] [-- WORDS]
 
 Makes so many scripts (200) by the seeds from FIRST (0) on, of two to three servers and workers, with inserts, queries,
-pulls, splits, moves, balances and pages, and runs each so often (20) by the word run, or by WORDS in its place. A row's
-measure is a power of two of its own, so that a sum tells which rows it counts. Each answer has all matching rows that its
-server put in before, and all that were told by pulls before its phase; it has none that begins behind it or in a later
-phase; and each once. So behind a settle it is of all. An audit and a page of all shards are of all rows before them. It
-runs the program that ./volap would, and builds it first where that is due, so `tools/test` leaves it out. Prints each run
-that isn't as it must be, and the status is 1 where there is one."""
+pulls, splits, moves, balances, groups and pages, and runs each so often (20) by the word run, or by WORDS in its
+place. A row's measure is a power of two of its own, so that a sum tells which rows it counts. Each answer has all
+matching rows that its server put in before, and all that were told by pulls before its phase; it has none that begins
+behind it or in a later phase; and each once. So behind a settle it is of all. An audit and a page of all shards are of
+all rows before them, and a group is of those that match, each under its concept. It runs the program that ./volap
+would, and builds it first where that is due, so `tools/test` leaves it out. Prints each run that isn't as it must be,
+and the status is 1 where there is one."""
 import os
 import random
 import subprocess
@@ -20,7 +21,7 @@ ROOT = os.path.dirname(os.path.dirname(os.path.dirname(os.path.abspath(__file__)
 COUNTRIES, TOWNS, DAYS = 2, 10, 4
 PLACES = ["*", "*", "*", "c0", "c1", "t0", "t1", "t2|t5", "t1|c0", "t3|t3", "t9|t6|t0", "nowhere"]
 DATES = ["*", "*", "*", "d0", "d1|d3", "d2"]
-CLOSING = "barrier", "settle", "shards", "audit", "tree"
+CLOSING = "barrier", "settle", "shards", "audit", "tree", "group"
 # So many runs are told of at most.
 MOST = 10
 
@@ -38,7 +39,8 @@ def made(seed):
     for _ in range(chance.randint(20, 90)):
         server = str(chance.randrange(servers))
         what = chance.choices(
-            ["insert", "query", "sync", "split", "move", "balance", *CLOSING], [10, 5, 2, 1.5, 1.5, 1, 0.5, 0.6, 0.3, 0.3, 0.3])[0]
+            ["insert", "query", "sync", "split", "move", "balance", *CLOSING],
+            [10, 5, 2, 1.5, 1.5, 1, 0.5, 0.6, 0.3, 0.3, 0.3, 0.8])[0]
         if what == "insert" and rows < 62:
             town = chance.randrange(TOWNS + 1) if chance.random() < 0.3 else chance.randrange(3)
             commands.append([what, server, str(1 << rows), "t%d" % town, "d%d" % chance.randrange(DAYS)])
@@ -53,9 +55,13 @@ def made(seed):
             commands.append([what, str(chance.randrange(9)), str(chance.randrange(4))])
         elif what == "balance":
             commands.append([what, str(chance.randint(1, 4))])
+        elif what == "group":
+            by = chance.choice([("place", "1"), ("place", "2"), ("day", "1")])
+            commands.append([what, *by, chance.choice(PLACES), chance.choice(DATES)])
         elif what != "insert":
             commands.append([what])
     commands += [["settle"]] + [["query", str(it), "*", "*"] for it in range(servers)] + [["shards"], ["audit"]]
+    commands += [["group", "place", "2", "*", "*"]]
     return use, commands
 
 
@@ -74,9 +80,15 @@ def is_known(name):
 
 
 def is_picked(name, pick):
-    """Whether a row's name is under what a query picks."""
+    """Whether a row's name is under what a query or a group picks."""
     over = "c%d" % (int(name[1:]) % COUNTRIES)
     return pick == "*" or any(it == name or (name[0] == "t" and it == over) for it in pick.split("|"))
+
+
+def concept_of(row, group):
+    """The concept that a row is under at the level of a group, as a page says it."""
+    number = int(row[4 if group[1] == "day" else 3][1:])
+    return "%s:%d" % (group[2], number % COUNTRIES if group[1:3] == ["place", "1"] else number)
 
 
 def phases(commands):
@@ -101,14 +113,16 @@ class Told:
         # How many splits were done at least, how many at most, and the greatest shard.
         self.splits, self.more, self.greatest = 0, 0, self.workers - 1
 
-    def matching(self, rows, command):
-        """Those of the rows that a query's filter matches."""
-        found = 0
+    def inserts(self, rows, filters):
+        """The inserts of those of the rows that a filter matches."""
         for other in self.commands:
             if other[0] == "insert" and rows & int(other[2]):
-                if is_picked(other[3], command[2]) and is_picked(other[4], command[3]):
-                    found |= int(other[2])
-        return found
+                if is_picked(other[3], filters[0]) and is_picked(other[4], filters[1]):
+                    yield other
+
+    def matching(self, rows, command):
+        """Those of the rows that a query's filter matches."""
+        return sum(int(it[2]) for it in self.inserts(rows, command[2:]))
 
     def pull(self, server, acked):
         """A server pulls, which has acknowledged these for certain."""
@@ -167,6 +181,20 @@ class Told:
         self.check(sum(int(it[6]) + int(it[8]) for it in lines) == rows.bit_count(), "tells of other rows than there are")
         self.check(self.workers + self.splits <= len(ids) <= self.workers + self.splits + self.more, "has too few or too many shards")
 
+    def group(self, command, lines, rows):
+        """A page of groups, whose lines are those of the concepts with rows, in order, and one of all."""
+        if not is_known(command[3]):
+            self.check([it[2:] for it in lines] == [["unknown", "0"]], "asks for a town that isn't known")
+            return
+        under = {}
+        for it in self.inserts(rows, command[3:]):
+            under[concept_of(it, command)] = under.get(concept_of(it, command), 0) | int(it[2])
+        concepts = sorted(under, key=lambda it: int(it.split(":")[1]))
+        self.check([it[2] for it in lines] == concepts + ["all"], "are other concepts than those of rows, or in another order")
+        for it in lines[:-1]:
+            self.check(self.aggregate(it[3:]) == under[it[2]], "is of other rows than there are under %s" % it[2])
+        self.check(self.aggregate(lines[-1][3:]) == sum(under.values()), "is of other rows in all than there are")
+
     def close(self, command, lines):
         """The command that closes a phase."""
         rows = 0
@@ -184,6 +212,8 @@ class Told:
         elif command[0] == "audit":
             self.check(self.aggregate(words) == rows, "is of other rows than there are")
             self.check(words[4] == "shards", "is no audit")
+        elif command[0] == "group":
+            self.group(command, lines, rows)
         else:
             self.check(words[1:] == ["declined", "unknown"] or words[0:2] == ["declined", "unknown"] or words[1] == "height", "is no page")
 
@@ -209,6 +239,8 @@ def judge(use, commands, text):
             command, of = commands[at], lines[at]
             try:
                 if command[0] in CLOSING:
+                    # A page of shards has lines of another word.
+                    told.check(command[0] != "group" or {it[1] for it in of} == {"group"}, "has lines of another command")
                     told.close(command, of)
                     continue
                 told.check(len(of) == 1 and of[0][1] == command[0], "has lines of another command")

@@ -29,7 +29,7 @@ FIELDS = [
     b"00000000000000000001", b"000000000000000000001", b"63", b"64", b"65536", b"65537", b"4294967295", b"4294967296",
     b"9223372036854775807", b"9223372036854775808", b"-9223372036854775808", b"-9223372036854775809", b"255", b"256",
     b"1.5", b"1e3", b"0x10", b" 1", b"1 ", b"x" * 64, b"x" * 65, b"\xc3\xa4" * 33, b"\xff", b"\0", b"volap", b"use", b"dim",
-    b"concept", b"insert", b"query", b"Insert", b"#", b"geo", b"berlin", b"de", b'"', b'"a""b"', b'"a,b"', b'"a"b', b'a"b']
+    b"concept", b"insert", b"query", b"group", b"Insert", b"#", b"geo", b"berlin", b"de", b'"', b'"a""b"', b'"a,b"', b'"a"b', b'a"b']
 BYTES = [bytes([it]) for it in b'",|*-\r\n \t\0;#019azA'] + [b"\xff", b"\xef\xbb\xbf", b'""', b"\r\n", b"\n\n"]
 
 

@@ -13,6 +13,47 @@ BENCH = os.path.join(ROOT, "bench")
 # A package duckdb that has what sql.py needs of one.
 DUCKDB = "import sqlite3\n\n\ndef connect(name):\n    return sqlite3.connect(name)\n"
 
+# A program that answers inserts, queries of one name, barriers and groups, by a look at all rows for each.
+PLAIN = """#!%s
+import sys
+rows, above, number = [], {}, 0
+for record in sys.stdin.read().split():
+    word, *fields = record.split(",")
+    if word == "dim":
+        above[fields[0]] = {}
+    if word == "concept":
+        dim, name, parent = fields
+        level, _, up = above[dim].get(parent, (0, 0, {}))
+        place = sum(it[0] == level + 1 for it in above[dim].values())
+        above[dim][name] = level + 1, place, {**up, level + 1: name}
+    if word in ("volap", "use", "dim", "concept"):
+        continue
+    number += 1
+
+    def told(what, found):
+        ends = (min(found), max(found)) if found else ("-", "-")
+        print(number, what, len(found), sum(found), *ends)
+
+    def measures(filters):
+        return [it[0] for it in rows if all(
+            pick == "*" or pick in of[pick_in][2].values() for pick, pick_in, of in zip(filters, above, it[1]))]
+
+    if word == "insert":
+        rows.append((int(fields[1]), [{dim: above[dim][name]} for dim, name in zip(above, fields[2:])]))
+        print(number, "insert ok")
+    elif word == "barrier":
+        print(number, "barrier ok")
+    elif word == "query":
+        told("query", measures(fields[1:]))
+    else:
+        dim, level = fields[0], int(fields[1])
+        for name, it in sorted(above[dim].items(), key=lambda it: it[1][1]):
+            found = measures([name if other == dim else "*" for other in above]) if it[0] == level else []
+            if found:
+                told("group %%d:%%d" %% it[:2], found)
+        told("group all", measures(["*"] * len(above)))
+"""
+
 
 def script(*words):
     return ran_command([sys.executable, os.path.join(BENCH, "script.py"), *words], BENCH).out
@@ -131,6 +172,36 @@ class Bench(unittest.TestCase):
         self.assertIn("inserts by 4 servers: the texts are not alike", told("lines").err)
         self.assertIn("queries alone: the texts are not alike", told("other", "run").err)
         self.assertIn("step ended with status 3", told("wrong").err)
+
+    def test_groups_are_timed_beside_queries_and_a_database(self):
+        sys.path.insert(0, BENCH)
+        self.addCleanup(sys.path.remove, BENCH)
+        import compare
+        import groups
+        ctypes.CDLL(None).prctl(compare.SUBREAPER, 1)
+        self.addCleanup(ctypes.CDLL(None).prctl, compare.SUBREAPER, 0)
+        for name, fewer in (("RUNS", 1), ("GROUPS", 2), ("QUERIES", 10)):
+            self.addCleanup(setattr, groups, name, getattr(groups, name))
+            setattr(groups, name, fewer)
+        put(self.folder, {
+            "plain": PLAIN % sys.executable, "none": PLAIN.replace("else:\n        dim", "else:\n        sys.exit(3)\n        dim") % sys.executable,
+            "wrong": PLAIN.replace("sum(found)", "sum(found) + 1") % sys.executable})
+        sales, where = groups.Sales(60), ("place", 2)
+        base = groups.table_of(sales)
+
+        def told(name):
+            os.chmod(os.path.join(self.folder, name), 0o755)
+            timer = groups.Timer(os.path.join(self.folder, name), self.folder)
+            return groups.row(timer, sales, base, where, timer.has_groups())
+
+        self.assertRegex(told("plain"), r"^\| place 2, 20 \| \d+\.\d\d \| ")
+        self.assertRegex(told("none"), r"^\| place 2, 20 \| - \| \d+\.\d \| - \| \d+\.\d \| - \| \d+\.\d \| - \|$")
+        with self.assertRaisesRegex(SystemExit, "groups: .* by place 2: the answers are not SQLite's"):
+            told("wrong")
+        self.assertEqual(groups.part(2.0, 8.0, 0.1), "0.250 <- more than 0.1")
+        for lines in (sales.with_groups(*where), sales.with_queries(*where, 2)):
+            said = ran_command([sys.executable, os.path.join(ROOT, "tools", "why"), "-"], BENCH, "".join(it + "\n" for it in lines))
+            self.assertEqual((said.status, said.err), (0, ""))
 
     def test_scripts_with_threads_have_no_bad_record(self):
         sys.path.insert(0, BENCH)

@@ -150,6 +150,13 @@ class Lanes(unittest.TestCase):
         self.assertEqual([line.split("-- ")[1] for line in said.out.split("\n") if "-- " in line], [
             "1 insert 1 c: unknown 0", "2 query c: unknown 0", "3 insert 1 a: nomem", "4 query a: nomem", "5 split 9: postponed"])
 
+    def test_a_group_ends_a_phase(self):
+        printed = "1 insert ok\n2 group 1:0 1 1 1 1\n2 group all 1 1 1 1\n3 group unknown 0\n4 insert ok\n"
+        said = of_events("insert,0,1,a\ngroup,d,1,*\ngroup,d,1,c\ninsert,0,1,a\n", printed, (
+            "2 begun 0\n3 acked 2 0\n4 called 3\n5 shown 4\n6 ended 4\n7 unknown 3\n8 begun 0\n9 acked 8 0\n"))
+        self.assertEqual([line.split("-- ")[1] for line in said.out.split("\n") if "-- " in line], [
+            "1 insert 1 a: ok, shard 0", "2 group d 1 *: shown", "3 group d 1 c: unknown 0", "4 insert 1 a: ok, shard 0"])
+
     def test_many_inserts_are_two(self):
         commands, printed = 9 * "insert,0,1,a\n", "".join("%d insert ok\n" % it for it in range(1, 10))
         told = "".join("%d begun 0\n%d acked %d 0\n" % (it, it + 1, it) for it in range(2, 20, 2))

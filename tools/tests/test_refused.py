@@ -17,9 +17,13 @@ WHOLE = """\
 7 shard 1 worker 0 rows 1 queued 0 box 2:0
 7 shard 2 worker 0 rows 1 queued 0 box 2:1
 8 audit 2 12 5 7 shards 2
+9 group 2:0 1 5 5 5
+9 group 2:1 1 7 7 7
+9 group all 2 12 5 7
 """
 # The same where no memory was found for the first insert.
 WITHOUT_ROW = WHOLE.replace("1 insert ok", "1 insert nomem").replace("8 audit 2 12 5", "8 audit 1 7 7")
+WITHOUT_ROW = WITHOUT_ROW.replace("9 group 2:0 1 5 5 5\n", "").replace("group all 2 12 5", "group all 1 7 7")
 # It prints the file of the refused request, if there is one, and else the whole.
 PROGRAM = """#!/bin/sh
 cd "$(dirname "$0")"
@@ -52,8 +56,8 @@ class Refused(unittest.TestCase):
 short, step: 4 runs met a refusal, 0 wrong
      1  Done, insert nomem
      1  Done, the same lines
-     1  NoMemory, behind 0 of 4 phases
-     1  NoMemory, behind 1 of 4 phases
+     1  NoMemory, behind 0 of 5 phases
+     1  NoMemory, behind 1 of 5 phases
 """))
 
     def test_ways_that_are_wrong(self):
@@ -64,6 +68,8 @@ short, step: 4 runs met a refusal, 0 wrong
                 (5, WITHOUT_ROW[:WITHOUT_ROW.index("4 ")], "memory was wanting too often"),
                 (0, WITHOUT_ROW.replace("2 insert ok", "2 insert nomem"), "memory was wanting too often"),
                 (0, WITHOUT_ROW.replace("8 audit 1 7 7", "8 audit 2 12 5"), "acknowledged were 1 rows"),
+                (0, WITHOUT_ROW.replace("9 group 2:1", "9 group 2:0"), "acknowledged were 1 rows"),
+                (0, WITHOUT_ROW.replace("9 group all 1 7 7 7\n", ""), "acknowledged were 1 rows"),
                 (0, WHOLE.replace("4 split ok 1 2", "4 split declined oneplace"), "what stands before all want of memory"),
                 (4, WHOLE, "it ends with the status 4"), (132, "", "it ends with the status 132")):
             with self.subTest(why):

@@ -97,6 +97,32 @@ class Report(unittest.TestCase):
             "field 5 (day): `mondy` is not known in `day`; the nearest known name is `monday`\n"
             "record 7, line 7, query 2, field 3 (geo): `a` is not known in `geo`, and field 3 (geo): `b` is not known in `geo`\n"))
 
+    def test_groups_by_names(self):
+        said = reported("group", "--measure", "amount*10")
+        self.assertIn((
+            "8  day by level 1: geo de\n"
+            "concept  rows  sum amount  mean amount  least amount  greatest amount\n"
+            "mon         2        20.0       10.000           8.0             12.0\n"
+            "tue         1         6.0        6.000           6.0              6.0\n"
+            "all         3        26.0        8.667           6.0             12.0\n"), said.out)
+        self.assertIn("9  geo by level 2: geo munich or fr, day tue\n", said.out)
+        self.assertIn("record 21, line 21, group 10, field 4 (geo): `rome` is not known in `geo`", said.out)
+        self.assertEqual(said.status, 1)
+        told = json.loads(reported("group", "--json").out)
+        self.assertEqual(told["groups"][3], {
+            "command": 9, "dimension": "geo", "level": 2, "question": "geo munich or fr, day tue",
+            "concepts": [{"concept": "paris", "rows": 1, "sum": 40, "mean": 40, "least": 40, "greatest": 40}],
+            "all": {"rows": 1, "sum": 40, "mean": 40, "least": 40, "greatest": 40},
+            "filters": {"geo": ["munich", "fr"], "day": ["tue"]}})
+
+    def test_groups_of_no_row_cut_or_without_memory(self):
+        script = NAMES + 3 * 'group,"a, b",1,*\n'
+        said = ran("report", "s", given="1 group all 0 0 - -\n2 group nomem\n3 group 1:1 1 7 7 7\n", files={"s": script})
+        self.assertEqual(said.out, (
+            "1  a, b by level 1: everything\nconcept  rows  sum  mean  least  greatest\nall         0    0     -      -         -\n\n"
+            "0 of 0 rows came in\nrecord 7, line 7, group 2: found no memory\n"
+            "1 command has no line of their own in this output, 3 the first: it is cut, or that of another script\n"))
+
     def test_records_and_lines_differ(self):
         script = '\ufeffvolap,1\r\n\r\ndim,d,1\n\n\nconcept,d,"two\nlines",*\ninsert,0,1,twolines\n'
         said = ran("report", "s", given="1 insert unknown 0\n", files={"s": script})

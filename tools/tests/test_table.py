@@ -173,6 +173,17 @@ class Table(unittest.TestCase):
         self.assertIn("3 questions, 5 did not fit", said.err)
         self.assertEqual(said.status, 1)
 
+    def test_questions_by_a_level(self):
+        said = made(
+            "c,t,p\nFR,Paris,tea\nUS,Paris,coffee\n", "--dim", "place=c/t", "--dim", "p", "--queries", "q",
+            q="by c\nby place,p=tea\n*\nby t,c=FR,p=tea|coffee\nby p,*\nby x\np=tea,by c\nby c,by t\n")
+        self.assertIn((
+            "settle\ngroup,place,1,*,*\ngroup,place,2,*,tea\nquery,0,*,*\ngroup,place,2,FR,tea|coffee\ngroup,p,1,*,*\nshards\n"), said.out)
+        self.assertIn("q:6: condition: `by x` has no dimension and no level behind by\n", said.err)
+        self.assertIn("q:7: condition: `by c` has no dimension and no level before =", said.err)
+        self.assertIn("q:8: condition: `by t` has no dimension and no level before =", said.err)
+        self.assertIn("5 questions, 3 did not fit", said.err)
+
     def test_names_that_look_alike_are_told(self):
         said = made("t\nBerlin\nberlin \n", "--dim", "t")
         self.assertIn("t: `Berlin` and `berlin ` differ in blanks or capitals alone, and stay apart\n", said.err)

@@ -118,6 +118,14 @@ BEHIND = [
     ("worker 256", "move,0,256", "9:8: bad 9 number", ["WORKER", "from 0 to 255", "for instance 255"]),
     ("17 moves", "balance,17", "9:9: bad 9 number", ["MOST", "from 1 to 16", "for instance 16"]),
     ("settle with a field", "settle,0", "9:8: bad 9 fields", ["1: settle", 'the field "0" is one too many']),
+    ("group with a filter too few", "group,geo,1,*",
+        "9:13: bad 9 fields", ["group,DIM,LEVEL,FILTER of geo,FILTER of day", "FILTER of day is missing"]),
+    ("group by level 0", "group,geo,0,*,*", "9:11: bad 9 number", ["LEVEL", "from 1 to 8", "for instance 1"]),
+    ("group by no dimension", "group,*,1,*,*", "9:7: bad 9 name", ['DIM is "*"', "for instance day"]),
+    ("group with an empty filter", "group,goe,8,*,", "9:15: bad 9 name", ["FILTER of day is empty", "for instance *"]),
+    ("group by a dimension that is unknown", "group,goe,8,*,*", "9:7: bad 9 nodim", ['DIM is "goe"', "for instance geo"]),
+    ("group by a level that is not there", "group,geo,3,*,*",
+        "9:11: bad 9 toodeep", ['LEVEL is 3, and "geo" has 2 levels, by line 3', "for instance 2"]),
 ]
 
 
